@@ -1,3 +1,4 @@
+// The refusals of a circuit file: each is one row of the table of causes in docs/FORMATS.md.
 ghost use Rattle.std.specs.Prelude.{◌≡◌};
 
 use q_logic::NoMemory;

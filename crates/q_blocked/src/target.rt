@@ -1,3 +1,4 @@
+// What the rules of this crate are applied to; each names a clause by its place in the kernel, and its pivot.
 use q_kernel::ClauseId;
 use q_logic::Lit;
 

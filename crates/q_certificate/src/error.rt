@@ -1,3 +1,4 @@
+// Circuits that fit no prefix, with the variable at fault. The first misfit in the order of the variants is told.
 use q_logic::NoMemory as MemoryMissing;
 
 /// Why circuits do not fit a prefix.

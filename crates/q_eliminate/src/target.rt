@@ -1,3 +1,4 @@
+// What bounded variable elimination is applied to (Een and Biere 2005; with universals, Biere 2004).
 ghost use Rattle.std.specs.Prelude.{◌≡◌};
 
 /// What elimination is applied to.

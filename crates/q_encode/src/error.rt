@@ -1,3 +1,4 @@
+// Why a miter is not written: it would pass the limits of a formula, or memory is wanting.
 use q_logic::NoMemory as MemoryMissing;
 
 /// Why no miter is made.

@@ -1,3 +1,4 @@
+// A matrix in the making: clauses are put one after the other, each is sorted first, as the canonical text has them.
 ghost use Rattle.std.specs.Prelude.{◌≡◌, ◌++◌, ◌∷◌, [], OnOk};
 ghost use Rattle.q_logic.specs.Prelude.{clause_of};
 

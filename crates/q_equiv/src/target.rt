@@ -1,3 +1,4 @@
+// What equivalent literals are merged by: the representative, and the literal that it takes the place of.
 ghost use Rattle.std.specs.Prelude.{◌≡◌};
 ghost use Rattle.q_equiv.specs.Targets.{keep_of, gone_of};
 

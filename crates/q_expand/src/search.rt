@@ -1,3 +1,4 @@
+// The memory of this crate's searches: made once, lent to each walk over the dependents of a universal variable.
 use crate::dependents::Dependents;
 use q_logic::Lit;
 

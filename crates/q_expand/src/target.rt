@@ -1,3 +1,4 @@
+// What universal expansion is applied to (Biere 2004).
 ghost use Rattle.std.specs.Prelude.{◌≡◌};
 
 /// What expansion is applied to.

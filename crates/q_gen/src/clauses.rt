@@ -1,3 +1,5 @@
+// The clauses of a random formula: four words of the generator (PCG, O'Neill 2014) make one clause of four literals,
+// one of the first block, one of the second and two of the third.
 ghost use Rattle.std.specs.Prelude.{◌≡◌, ◌≤◌, ◌<◌, ◌+◌, ◌^◌, ℕ, suc, ◌++◌, [], ◌∷◌, OnOk};
 ghost use Rattle.rand_core.specs.Steps.{first_words};
 ghost use Rattle.rand_pcg.specs.Pcg.{pcg32};

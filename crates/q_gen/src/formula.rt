@@ -1,3 +1,4 @@
+// The random formula of a seed and a size, as `gen` writes it: the same on each machine.
 ghost use Rattle.std.specs.Prelude.{◌≡◌, ◌≤◌, IfOk};
 ghost use Rattle.q_logic.specs.Prelude.{IsInLimits, standard, IsProper};
 ghost use Rattle.q_gen.specs.Generated.{Generated};

@@ -1,3 +1,4 @@
+// The file of `gen`: the canonical text of the formula, created and written in one piece.
 ghost use Rattle.std.specs.Prelude.{◌≡◌, ◌≤◌, OnOk, OnErr, IsErrOf, IfSome};
 ghost use Rattle.q_io.specs.Files.{Later, RoseFor};
 ghost use Rattle.q_gen.specs.Outputs.{HoldsGenerated, HoldsGeneratedPart};

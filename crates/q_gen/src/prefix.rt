@@ -1,3 +1,4 @@
+// The prefix of a random formula: three blocks, exists, forall, exists, whose widths go by the number of clauses.
 ghost use Rattle.std.specs.Prelude.{◌≡◌, ◌≤◌, ◌<◌, ◌+◌, ◌^◌, ◌++◌, OnOk, IfOk};
 ghost use Rattle.q_gen.specs.Generated.{block_from, prefix_of};
 

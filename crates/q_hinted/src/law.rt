@@ -1,3 +1,4 @@
+// The laws of hinted logs: what the reader hands out is what the grammar says, and the first token tells the profile.
 ghost use Rattle.std.specs.Prelude.{◌≡◌, ◌↔◌, ◌≤◌, ℕ, List, Some, None, length, map};
 ghost use Rattle.std.specs.List.{AllByRecursion};
 ghost use Rattle.q_logic.specs.Prelude.{Hinted};

@@ -1,3 +1,4 @@
+// The two ways in which a call on a device fails. Which name it was is told by the counts of faults, not here.
 ghost use Rattle.std.specs.Prelude.{◌≡◌};
 
 use q_logic::NoMemory;

@@ -1,3 +1,5 @@
+// What commands ask of the world: files by name and a place for lines. Everything above is proved over these two traits, with a
+// disk, with memory, and with faults that are planned.
 ghost use Rattle.std.specs.Prelude.{◌≡◌, ◌≤◌, ◌++◌, List, ℕ, Option, length, is_some, IfOk, OnOk, OnErr, IfSome, IsErrOf};
 ghost use Rattle.q_io.specs.Files.{Disk, Later, OnlyReads, RoseFor, Reads, Empties, MayEmpty, Appends, AppendsPart, GrowsBy, GrowsByPart};
 ghost use Rattle.q_logic.specs.Prelude.{Rose};

@@ -1,3 +1,4 @@
+// Why a log is not read on: a token that fits no step, too many bytes, or memory is wanting.
 ghost use Rattle.std.specs.Prelude.{◌≡◌};
 ghost use Rattle.q_log.specs.Causes.{cause_number};
 

@@ -1,3 +1,4 @@
+// The laws of plain logs: the reader and the grammar say the same, runs and targets can be logged, refusals are least.
 ghost use Rattle.std.specs.Prelude.{◌≡◌, ◌↔◌, ◌≤◌, ℕ, List, Some, length};
 ghost use Rattle.std.specs.List.{AllByRecursion};
 ghost use Rattle.q_logic.specs.declared.rule_bounds.Bounds.{Bounds};

@@ -1,3 +1,4 @@
+// The limits of formulas and logs, at which readers refuse and below which 32-bit places suffice.
 ghost use Rattle.std.specs.Prelude.{◌≡◌};
 ghost use Rattle.q_logic.specs.Limits.{standard};
 

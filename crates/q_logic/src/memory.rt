@@ -1,3 +1,4 @@
+// Refused memory as an error of its own, so that `?` carries each kind of it.
 use std::alloc::{AllocError, AllocFailed};
 
 /// Memory was wanted and not given.

@@ -1,3 +1,4 @@
+// The bounds by which elimination and expansion stay small: the options `--grow` and `--expand`.
 ghost use Rattle.std.specs.Prelude.{◌≤◌};
 
 /// How far the rules of simplification may go: by how much an elimination may let the formula grow, and

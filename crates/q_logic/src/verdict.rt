@@ -1,3 +1,4 @@
+// The words of a search over assignments: what is known of a node, and of a literal at it.
 ghost use Rattle.std.specs.Prelude.{◌≡◌};
 ghost use Rattle.q_logic.specs.Searching.{worse};
 ghost use Rattle.q_logic.specs.Decisions.{is_true, is_hopeless};

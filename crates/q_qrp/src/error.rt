@@ -1,3 +1,4 @@
+// The refusals of a trace before its proof is judged: each is one row of the table of causes in docs/FORMATS.md.
 ghost use Rattle.std.specs.Prelude.{◌≡◌};
 ghost use Rattle.q_qrp.specs.Causes.{cause_number};
 

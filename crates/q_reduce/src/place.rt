@@ -1,3 +1,5 @@
+// Where a clause stands in a forest: the walks over resolution paths by which extended universal reduction is tested (Slivovsky
+// and Szeider 2016 have these dependencies).
 use q_kernel::ClauseId;
 use q_logic::Lit;
 

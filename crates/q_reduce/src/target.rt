@@ -1,3 +1,4 @@
+// What the plain rules are applied to: tautologies, unit clauses, reducible universal literals, pure literals.
 use q_kernel::ClauseId;
 use q_logic::Lit;
 

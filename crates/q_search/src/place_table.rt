@@ -1,3 +1,4 @@
+// The place of each variable in a prefix, looked up by its number.
 ghost use Rattle.std.specs.Prelude.{◌≡◌, ◌==◌, if◌then◌else◌, ℕ, IfOk, OnOk, slice_index_or};
 ghost use Rattle.q_search.specs.PlaceTables.{place_in, ArePlaces};
 

@@ -1,3 +1,4 @@
+// Where the next search for a subsumed clause begins: behind the clause by which the last one was found.
 use crate::target::Target;
 use q_kernel::ClauseId;
 

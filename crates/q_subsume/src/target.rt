@@ -1,3 +1,4 @@
+// What subsumption and strengthening (self-subsuming resolution) are applied to (Een and Biere 2005).
 use q_kernel::ClauseId;
 use q_logic::Lit;
 

@@ -1,3 +1,4 @@
+// Numbers as text: decimal digits without leading zeros, as lines and canonical texts have them.
 ghost use Rattle.std.specs.Prelude.{◌≡◌, ◌≤◌, ◌+◌, ◌++◌, length, vec_len, vec_capacity, OnOk, OnErr, IsOk};
 ghost use Rattle.std.specs.Fmt.{decimal, signed_decimal};
 
