@@ -98,5 +98,5 @@ pub fn take_blocked_forall(kernel: &mut Kernel, c: ClauseId, l: Lit)
     ensures { IsChanged kernel.old kernel.new (blocked_forall c l) }
 {
     kernel.sound();
-    kernel.drop_pivot(c, l);
+    kernel.drop_lit(c, l);
 }

@@ -17,6 +17,6 @@ pub(crate) fn drop_all(kernel: &mut Kernel, lit: Lit)
     while let Some(place) = kernel.first(lit) {
         kernel.sound();
         let id = kernel.owner(place);
-        kernel.drop_reach(id, lit);
+        kernel.drop_lit(id, lit);
     }
 }

@@ -427,24 +427,8 @@ impl Kernel {
         self.take_out(id);
     }
 
-    /// Drops a universal literal that is reducible, or a universal pivot.
-    pub fn drop_reach(&mut self, id: ClauseId, lit: Lit)
-        requires { MayDrop self.old id lit }
-        ensures { IsDropped self.old self.new id lit }
-    {
-        self.drop_lit(id, lit);
-    }
-
-    /// The same for a universal pivot.
-    pub fn drop_pivot(&mut self, id: ClauseId, lit: Lit)
-        requires { MayDrop self.old id lit }
-        ensures { IsDropped self.old self.new id lit }
-    {
-        self.drop_lit(id, lit);
-    }
-
-    // Drops a literal and logs the step.
-    fn drop_lit(&mut self, id: ClauseId, lit: Lit)
+    /// Drops a universal literal that is reducible, or a universal pivot, and logs the step.
+    pub fn drop_lit(&mut self, id: ClauseId, lit: Lit)
         requires { MayDrop self.old id lit }
         ensures { IsDropped self.old self.new id lit }
     {

@@ -50,7 +50,7 @@ fn make_change(kernel: &mut Kernel, target: &Target)
     match *target {
         Target::Tautology { c } => kernel.delete_implied(c),
         Target::Unit { c } => take_unit(kernel, c),
-        Target::Cut { c, l } => kernel.drop_reach(c, l),
+        Target::Cut { c, l } => kernel.drop_lit(c, l),
         Target::Pure { l } => take_pure(kernel, l),
     }
 }

@@ -54,6 +54,6 @@ fn drop_all(kernel: &mut Kernel, l: Lit)
 {
     while let Some(id) = clause_with(kernel, l, None) {
         kernel.sound();
-        kernel.drop_reach(id, l);
+        kernel.drop_lit(id, l);
     }
 }

@@ -26,8 +26,8 @@ take_unit-requires-clause-unit c =
     let k = c.args.kernel.now in
     at k.prefix (slots k) c.args.target.now (Unit c.in-Unit.c) c.in-Unit.is c.requires.fits
 
-pub drop_reach-requires : goal.drop_reach-requires
-drop_reach-requires c =
+pub drop_lit-requires : goal.drop_lit-requires
+drop_lit-requires c =
     let k = c.args.kernel.now in
     let f = at k.prefix (slots k) c.args.target.now (Cut c.in-Cut.c c.in-Cut.l) c.in-Cut.is c.requires.fits in
     may-drop_reducible k c.in-Cut.c f.0 c.sound.ensures f.1 c.in-Cut.l f.2 (change-clause k c.in-Cut.c f.0 f.1 c.requires.bytes)
@@ -59,6 +59,6 @@ pub returns-in-Cut : goal.returns-in-Cut
 returns-in-Cut c =
     let k = c.args.kernel.now in
     let f = at k.prefix (slots k) c.args.target.now (Cut c.in-Cut.c c.in-Cut.l) c.in-Cut.is c.requires.fits in
-    subst (λ (t : Target). IsChanged k c.drop_reach.new.self (target_of t)) (sym c.in-Cut.is)
-    (changed-cut k c.drop_reach.new.self c.in-Cut.c c.in-Cut.l c.sound.ensures c.requires.limits c.requires.bytes
-    (λ C e. subst (λ (x : Clause). IsIn c.in-Cut.l x) (same_Some f.0 C (sym f.1 ∙ e)) f.2.in_clause) c.drop_reach.ensures)
+    subst (λ (t : Target). IsChanged k c.drop_lit.new.self (target_of t)) (sym c.in-Cut.is)
+    (changed-cut k c.drop_lit.new.self c.in-Cut.c c.in-Cut.l c.sound.ensures c.requires.limits c.requires.bytes
+    (λ C e. subst (λ (x : Clause). IsIn c.in-Cut.l x) (same_Some f.0 C (sym f.1 ∙ e)) f.2.in_clause) c.drop_lit.ensures)

@@ -16,8 +16,8 @@ loop-id-init c = record {
   pure = c.requires.pure;
 }
 
-pub drop_reach-requires : goal.drop_reach-requires
-drop_reach-requires c =
+pub drop_lit-requires : goal.drop_lit-requires
+drop_lit-requires c =
     let k = c.loop-id.kernel in
     let held : HoldsLiteral k c.in-Some.id c.args.l = c.in-Some.ensures.some c.in-Some.id refl in
     may-drop_pure k c.in-Some.id held.0 c.sound.ensures held.1 c.args.l held.2
@@ -28,17 +28,17 @@ pub loop-id-smaller : goal.loop-id-smaller
 loop-id-smaller c =
     let k = c.loop-id.kernel in
     let held : HoldsLiteral k c.in-Some.id c.args.l = c.in-Some.ensures.some c.in-Some.id refl in
-    let d = c.drop_reach.ensures in
-    with-falls c.args.l k c.drop_reach.new.self c.in-Some.id d.clause d.was (subst (λ (x : Clause). IsIn c.args.l x) (same_Some held.0 d.clause (sym held.1 ∙ d.was)) held.2) d.change
+    let d = c.drop_lit.ensures in
+    with-falls c.args.l k c.drop_lit.new.self c.in-Some.id d.clause d.was (subst (λ (x : Clause). IsIn c.args.l x) (same_Some held.0 d.clause (sym held.1 ∙ d.was)) held.2) d.change
 
 pub loop-id-preserved : goal.loop-id-preserved
 loop-id-preserved c =
     let k = c.loop-id.kernel in
     let held : HoldsLiteral k c.in-Some.id c.args.l = c.in-Some.ensures.some c.in-Some.id refl in
-    let d = c.drop_reach.ensures in
+    let d = c.drop_lit.ensures in
     let m : IsIn c.args.l d.clause = subst (λ (x : Clause). IsIn c.args.l x) (same_Some held.0 d.clause (sym held.1 ∙ d.was)) held.2 in
     record {
-      clearing = clearing-more 16 c.args.l c.args.kernel.now k c.drop_reach.new.self c.in-Some.id (length (step_text (drop_literal c.args.l d.clause))) d.clause d.was m d.change d.prefix d.logged.led d.logged.bytes
+      clearing = clearing-more 16 c.args.l c.args.kernel.now k c.drop_lit.new.self c.in-Some.id (length (step_text (drop_literal c.args.l d.clause))) d.clause d.was m d.change d.prefix d.logged.led d.logged.bytes
           (drop-cost k c.in-Some.id d.clause c.sound.ensures d.was c.args.l m) c.loop-id.invariant.clearing;
       pure = λ o. c.loop-id.invariant.pure (shorter-in c.args.l (negation c.args.l) (slots k) c.in-Some.id d.clause d.was (subst (λ (N : Slots). OccursIn (negation c.args.l) (live N)) d.change o));
     }
