@@ -55,10 +55,17 @@ refuse solve "$examples/equivalence.qdimacs" out log cert
 refuse gen 7 5 formula
 refuse check "$examples/parity.qdimacs" "$examples/parity-out.qdimacs" "$examples/parity.qrat" --part=1/2
 refuse check "$examples/parity.qdimacs" "$examples/parity-out.qdimacs" "$examples/parity.qrat" --part=2/2
+for part in 1/2 2/2; do
+    refuse annotate "$examples/parity.qdimacs" "$examples/parity-out.qdimacs" "$examples/parity.qrat" hinted --part=$part
+done
 refuse disprove "$examples/parity.qdimacs" "$examples/parity.qrat"
 printf 'p cnf 2 4\n1 2 0\n-1 2 0\n1 -2 0\n-1 -2 0\n' >cnf
 printf 'a\004\000d\002\004\000a\000' >bytes
 refuse disprove cnf bytes
+for part in 1/2 2/2; do
+    refuse disprove "$examples/parity.qdimacs" "$examples/parity.qrat" --part=$part
+    refuse disprove cnf bytes --part=$part
+done
 printf 'p cnf 2 2\na 1 0\ne 2 0\n1 2 0\n-1 -2 0\n' >formula
 printf 'p qrp 2 2\na 1 0\ne 2 0\n3 1 -2 0 0\n4 -1 2 0 0\n5 1 0 3 0\n6 -1 0 4 0\n7 0 5 6 0\nr SAT\n' >trace
 refuse extract formula trace cert
