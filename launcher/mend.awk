@@ -50,20 +50,16 @@ function put_clause(    k) {
     printf "0\n" >body
     clauses++; many = 0; open = 0
 }
-# Free variables are the outermost existentials, in ascending order; a variable that no clause has is in no set.
+# Free variables are the outermost existentials, in ascending order; a variable of a set stays, also where no clause has it.
 function put_prefix(    v, k, last) {
     for (v = 1; v <= largest; v++) if (v in used && !(v in quantifier)) last = put_variable(v, "e", last)
-    for (k = 1; k <= bounds; k++) if (bound[k] in used) last = put_variable(bound[k], quantifier[bound[k]], last)
+    for (k = 1; k <= bounds; k++) last = put_variable(bound[k], quantifier[bound[k]], last)
     if (last != "") printf " 0\n" >head
 }
 function put_variable(v, q, last) {
     if (q != last) printf "%s%s", (last == "" ? "" : " 0\n"), q >head
     printf " %d", v >head
     return q
-}
-function greatest(    v) {
-    for (v = largest; v > 0; v--) if (v in used) return v
-    return 0
 }
 function wrong(t) {
     if (t == "d") return "'d' begins a set of DQDIMACS, which is another logic"
@@ -121,7 +117,7 @@ END {
         kind = order[k]
         print ENVIRON["NAME"] ":" first[kind] ": " says[kind] (times[kind] > 1 ? ", and so on, " times[kind] " times" : "") >"/dev/stderr"
     }
-    print "p cnf " greatest() " " clauses + 0 >head
+    print "p cnf " largest + 0 " " clauses + 0 >head
     put_prefix()
     print kinds + 0 >count
 }
