@@ -63,14 +63,6 @@ fn words(arguments: &[String]) -> &[String]
     }
 }
 
-// The command; the empty word where there is none.
-fn command_of(arguments: &[String]) -> &str {
-    match words(arguments).first() {
-        Some(word) => word.as_str(),
-        None => "",
-    }
-}
-
 // A word that is no text makes no command.
 fn without_words(error: io::Error) -> Status {
     if error.kind() == io::ErrorKind::OutOfMemory {
@@ -150,7 +142,7 @@ fn exit_on_disk(rt: &HostRuntime, arguments: &[String]) -> Result<ExitCode, NoMe
     let mut out = StdSink::new(&wiped);
     let exit = exit_over(rt.alloc(), arguments, &mut files, &mut out, shares);
     board.finish();
-    wiped.explain(command_of(arguments));
+    wiped.explain();
     Ok(exit)
 }
 
