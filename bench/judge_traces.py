@@ -124,6 +124,11 @@ class Judge:
             return False
         return all(c & literals for c in self.to_meet) if self.owner == "e" else literals in self.clauses
 
+    def may_merge(self, first, second, pivot):
+        """Whether the pivot stands before each variable of the owner of which the lines hold different signs."""
+        place = self.place[abs(pivot)]
+        return all(place < self.place[abs(l)] for l in first if -l in second and self.is_owned(l))
+
     def cause_of_reduction(self, parents, line):
         """Of what may be reduced, by each pivot, to the line: 10, 11, or nothing where one is right."""
         opposed = lambda literals: {l for l in literals if not self.is_owned(l)}
@@ -142,14 +147,15 @@ class Judge:
         if not named or any(name not in before for name in named):
             return None if self.may_stand(literals) else 5 if named else 6
         first, *other = (before[name] for name in named)
-        if not other:
-            return 9 if self.has_both(literals) else self.cause_of_reduction([first], literals)
-        pivots = [l for l in first if -l in other[0] and not self.is_owned(l)]
-        if not pivots:
-            return 7
-        if self.has_both(literals) or self.has_both(first | other[0]):
-            return 9
-        return self.cause_of_reduction([(first - {p}) | (other[0] - {-p}) for p in pivots], literals)
+        parents = [first]
+        if other:
+            pivots = [l for l in first if -l in other[0] and not self.is_owned(l)]
+            if not pivots:
+                return 7
+            parents = [(first - {p}) | (other[0] - {-p}) for p in pivots if self.may_merge(first, other[0], p)]
+        both = {l for l in literals if -l in literals and self.is_owned(l)}
+        parents = [parent for parent in parents if both <= parent]
+        return self.cause_of_reduction(parents, literals) if parents else 9
 
 
 def cone(lines):

@@ -66,6 +66,9 @@ for part in 1/2 2/2; do
     refuse disprove "$examples/parity.qdimacs" "$examples/parity.qrat" --part=$part
     refuse disprove cnf bytes --part=$part
 done
+refuse disprove cnf bytes cert
+refuse disprove "$examples/parity.qdimacs" "$examples/parity.qrat" cert
+refuse apply "$examples/equivalence.qdimacs" "$examples/equivalence.qrat" out
 printf 'p cnf 2 2\na 1 0\ne 2 0\n1 2 0\n-1 -2 0\n' >formula
 printf 'p qrp 2 2\na 1 0\ne 2 0\n3 1 -2 0 0\n4 -1 2 0 0\n5 1 0 3 0\n6 -1 0 4 0\n7 0 5 6 0\nr SAT\n' >trace
 refuse extract formula trace cert

@@ -182,7 +182,7 @@ def try_formulas(trial, make, first, last, ways):
         for way in ways:
             status = trace_of(place("in"), way)
             wanted = judge(get("in"), get("trace"))
-            if not way.endswith("long") and wanted != VERDICTS.get(status):
+            if way != "eager-long" and wanted != VERDICTS.get(status):
                 trial.complain(f"{seed}-{way}", f"DepQBF ends with {status}, and its trace: {wanted}")
             said = trial.compare(f"{seed}-{way}", wanted, None)
             if status == 10 and said == "true" and run([CELDRINN, "validate", place("in"), place("cert")])[1] != "valid":
@@ -217,7 +217,7 @@ def try_folder(trial, folder, ways):
             if status not in VERDICTS:
                 trial.counts[way, "no answer of DepQBF"] += 1
                 continue
-            wanted = VERDICTS[status] if not way.endswith("long") else None
+            wanted = VERDICTS[status] if way != "eager-long" else None
             said = trial.compare(f"{name}-{way}", wanted or judge(get("in"), get("trace")), 10)
             trial.counts[way, said] += said is not None
 

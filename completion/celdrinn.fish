@@ -19,7 +19,7 @@ function __celdrinn_wants_file
         case extract
             set kinds f f f
         case disprove
-            set kinds f f
+            set kinds f f f
         case miter
             set kinds f f f
         case validate
@@ -32,6 +32,8 @@ function __celdrinn_wants_file
             set kinds n n f
         case demo
             set kinds n n f f f
+        case apply
+            set kinds f f f
         case mend
             set kinds f f
         case '*'
@@ -73,6 +75,7 @@ for where in __celdrinn_is_first __celdrinn_is_help
     complete -c celdrinn -n $where -a solve -d 'simplifies and decides a small formula, with circuits'
     complete -c celdrinn -n $where -a gen -d 'writes a random formula of SIZE clauses'
     complete -c celdrinn -n $where -a demo -d 'does gen, simplify and check, one after the other'
+    complete -c celdrinn -n $where -a apply -d 'writes the formula to which a log leads, as far as it goes'
     complete -c celdrinn -n $where -a mend -d 'writes a formula anew where it is not quite of the form that is read'
 end
 complete -c celdrinn -n __celdrinn_is_help -a causes -d 'what the causes of a refusal mean'
@@ -83,6 +86,7 @@ complete -c celdrinn -n '__celdrinn_wants_option simplify validate solve' -a --b
 complete -c celdrinn -n '__celdrinn_wants_option simplify solve' -a --grow= -d 'by how much an elimination may let the formula grow'
 complete -c celdrinn -n '__celdrinn_wants_option simplify solve' -a --expand= -d 'by how much an expansion may let the formula grow'
 complete -c celdrinn -n '__celdrinn_wants_option simplify' -a --time= -d 'takes no further step after so many seconds, and writes what is reached'
+complete -c celdrinn -n '__celdrinn_wants_option simplify' -a --plain -d 'leaves extended universal reduction out, over which refute carries nothing back'
 complete -c celdrinn -n '__celdrinn_wants_option check annotate disprove' -a --part= -d 'judges every Nth block of 1,000 steps, and makes the others'
 complete -c celdrinn -n '__celdrinn_wants_option disprove' -a --binary -d 'reads as a binary proof what could be a text'
 complete -c celdrinn -n '__celdrinn_wants_option miter validate' -a --herbrand -d 'takes circuits of the universals'
@@ -90,7 +94,7 @@ complete -c celdrinn -n '__celdrinn_wants_option simplify' -a --best -d 'tries l
 complete -c celdrinn -n '__celdrinn_wants_option validate' -a --with= -d 'asks a SAT solver, as cadical'
 complete -c celdrinn -n '__celdrinn_wants_option validate certify solve' -a --seconds= -d 'stops after so many seconds'
 complete -c celdrinn -n '__celdrinn_wants_option certify' -a --check -d 'tests the circuits once more'
-complete -c celdrinn -n '__celdrinn_wants_option simplify check rebuild annotate refute extract disprove miter validate solve' -a --stats -d 'says at the end what was done, and what it took'
-complete -c celdrinn -n '__celdrinn_wants_option simplify rebuild annotate refute extract miter certify solve gen demo mend' -a --force -d 'writes over a formula that is there'
-complete -c celdrinn -n '__celdrinn_wants_option simplify check rebuild annotate refute extract disprove miter validate certify solve gen demo mend' -a --quiet -d 'says nothing that is no answer'
-complete -c celdrinn -n '__celdrinn_wants_option simplify check rebuild annotate refute extract disprove miter validate certify solve gen demo mend' -a --verbose -d 'says what it does, wherever standard error leads'
+complete -c celdrinn -n '__celdrinn_wants_option simplify check rebuild annotate refute extract disprove miter validate solve apply' -a --stats -d 'says at the end what was done, and what it took'
+complete -c celdrinn -n '__celdrinn_wants_option simplify rebuild annotate refute extract disprove miter certify solve gen demo apply mend' -a --force -d 'writes over a formula that is there'
+complete -c celdrinn -n '__celdrinn_wants_option simplify check rebuild annotate refute extract disprove miter validate certify solve gen demo apply mend' -a --quiet -d 'says nothing that is no answer'
+complete -c celdrinn -n '__celdrinn_wants_option simplify check rebuild annotate refute extract disprove miter validate certify solve gen demo apply mend' -a --verbose -d 'says what it does, wherever standard error leads'

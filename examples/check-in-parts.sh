@@ -1,5 +1,5 @@
 #!/bin/sh
-# Checks one long log in parts, beside each other. The formulas between the parts are made by replay.awk, which is not trusted: a part
+# Checks one long log in parts, beside each other. The formulas between the parts are made by `apply`, and need not be trusted: a part
 # is verified only where its steps lead from the formula before it to the one behind it. So if all parts are verified, `check` would
 # verify the parts one behind the other as one log from IN to OUT, and LOG, where it has the same words: theorems
 # (`checked_parts_are_checked`, `same_words_are_checked_alike` of crates/q_parts). That it has them is compared here. `check --part` needs
@@ -10,7 +10,6 @@
 set -u
 here=$(cd "$(dirname "$0")" && pwd)
 . "$here/common.sh"
-replay=$parts/replay.awk
 jobs=$(nproc 2>/dev/null || echo 2)
 parts='' hosts=''
 while getopts p:j:s: option; do
@@ -30,6 +29,7 @@ take "${2:-$here/parity-out.qdimacs}" && out=$file
 take "${3:-$here/parity.qrat}" && log=$file
 [ -z "$hosts" ] || has parallel || skip "GNU parallel" parallel
 
+! has_hints "$log" || { echo "a log with hints is not cut" && exit 1; }
 # Whole steps are counted, since a step may have several lines.
 steps=$(awk '/^[ \t\r]*c/ { next } { for (i = 1; i <= NF; i++) if ($i ~ /^0+\r*$/) n++ } END { print n + 0 }' "$log")
 cp "$in" "$work/0.qdimacs" && cp "$out" "$work/out.qdimacs" || exit 1
@@ -51,24 +51,50 @@ check_parts() {
     fi
 }
 
-# A part is checked as soon as it is there. The first one begins with IN, and the last one has to end in OUT.
-awk -v every=$(((steps + parts - 1) / parts)) -v total="$steps" -v dir="$work" -f "$replay" "$in" "$log" | tee "$work/names" | (cd "$work" && check_parts >lines)
-[ -f "$work/count" ] || exit 1
-read -r parts steps is_cut <"$work/count"
-[ "$is_cut" -eq 0 ] || { echo "refused: the log ends inside a step" && exit 1; }
+# Cuts the log behind each so many steps: part K goes to K.qrat. Ends with 1 where the log breaks off inside a step.
+cut_log() {
+    awk -v every=$(((steps + parts - 1) / parts)) -v dir="$work" '
+        BEGIN { part = 1; name = dir "/1.qrat"; printf "" >name }
+        /^[ \t\r]*c/ { next }
+        {
+            gsub(/\r/, " ")
+            for (i = 1; i <= NF; i++) {
+                if (inside == 0 && made == every) { close(name); made = 0; name = dir "/" ++part ".qrat" }
+                inside = $i !~ /^0+$/
+                if (!inside) made++
+                printf "%s%s", $i, (inside ? " " : "\n") >name
+            }
+        }
+        END { exit inside }' "$log"
+}
+cut_log || { echo "refused: the log ends inside a step" && exit 1; }
+count=0
+while [ -f "$work/$((count + 1)).qrat" ]; do count=$((count + 1)); done
+
+# The names of each part: the formula before it, the one behind it, the steps. The last part has to end in OUT.
+make_parts() {
+    k=1
+    while [ $k -lt $count ]; do
+        "$celdrinn" apply "$((k - 1)).qdimacs" "$k.qrat" "$k.qdimacs" >"$k.made" || { cp "$k.made" stopped && return; }
+        echo "$((k - 1)).qdimacs $k.qdimacs $k.qrat"
+        k=$((k + 1))
+    done
+    echo "$((count - 1)).qdimacs out.qdimacs $count.qrat"
+}
+# A part is checked as soon as it is there.
+(cd "$work" && make_parts) | tee "$work/names" | (cd "$work" && check_parts >lines)
 
 # What was checked are the steps of LOG: the words of the parts, one behind the other, are its words, but for zeros in front.
 tab=$(printf '\t') cr=$(printf '\r')
 # shellcheck disable=SC2020
 words() { sed "/^[ $tab$cr]*c/d" | tr " $tab$cr" '\n\n\n' | sed '/^$/d; s/^\(-\{0,1\}\)0*\([0-9]\)/\1\2/'; }
-count=0
-while [ -f "$work/$((count + 1)).qrat" ]; do count=$((count + 1)); done
 k=1
 while [ $k -le $count ]; do
     cat "$work/$k.qrat"
     k=$((k + 1))
 done | words >"$work/joined"
 words <"$log" | cmp -s - "$work/joined" || { echo "refused: the parts are not the log" && exit 1; }
+[ ! -f "$work/stopped" ] || { echo "part $(wc -l <"$work/names" | awk '{ print $1 + 1 }'): $(cat "$work/stopped")" && exit 1; }
 # Each part was checked from the formula behind the one before it, and the last one to OUT.
 k=1
 while [ $k -le $count ]; do

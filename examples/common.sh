@@ -59,6 +59,9 @@ take() {
     file=$work/taken$taken
 }
 
+# Whether a log is one with hints: its first word is `p`.
+has_hints() { [ "$(awk '/^[ \t\r]*c/ { next } NF > 0 { print $1; exit }' "$1")" = p ]; }
+
 # Sets `to` to a name under which a program writes a file, also where it begins as an option does.
 name_to() { case $1 in -?*) to=./$1 ;; *) to=$1 ;; esac; }
 

@@ -15,7 +15,20 @@ take "$2" && log=$file
 name_to "$3" && out=$to
 name_to "$4" && whole=$to
 
-awk -v every=0 -v dir="$work" -f "$parts/replay.awk" "$in" "$log" || exit 1
-cat "$work/1.qdimacs" >"$out" && cat "$work/1.qrat" >"$whole" || exit 5
+"$celdrinn" apply "$in" "$log" "$work/out" >"$work/line"
+status=$?
+line=$(cat "$work/line")
+[ $status -eq 0 ] || { echo "$line" && exit $status; }
+case $line in
+    *broken*)
+        ! has_hints "$log" || { cat "$work/out" >"$out" && echo "$line; a log with hints is not cut" && exit 1; }
+        steps=${line#applied }
+        awk -v steps="${steps%% *}" '
+            /^[ \t\r]*c/ { next }
+            { gsub(/\r/, " "); for (i = 1; i <= NF && steps > 0; i++) if ($i ~ /^0+$/) { print $i; steps-- } else printf "%s ", $i }' "$log" >"$work/whole"
+        ;;
+    *) cat "$log" >"$work/whole" ;;
+esac
+cat "$work/out" >"$out" && cat "$work/whole" >"$whole" || exit 5
 # whoever made OUT, check says whether it is right
 "$celdrinn" check "$in" "$out" "$whole"

@@ -4,6 +4,7 @@
 #include <stdio.h>
 
 int main(void) {
+    struct celdrinn_options options = CELDRINN_OPTIONS;
     const int outer[] = {1}, inner[] = {2}, clauses[] = {1, 2, 0, -1, -2, 0};
     struct celdrinn_formula left;
     size_t length;
@@ -13,6 +14,8 @@ int main(void) {
     celdrinn_block(c, 'e', inner, 1);
     celdrinn_clauses(c, clauses, 6);
     celdrinn_limit_seconds(c, 10);
+    options.grow = 8;
+    celdrinn_set_options(c, &options);
 
     int status = celdrinn_do_simplify(c);
     printf("%s\n", celdrinn_line(c));
@@ -20,6 +23,7 @@ int main(void) {
     if (celdrinn_do_check(c) == 0) printf("the log is %s\n", celdrinn_line(c));
     if (status == CELDRINN_TRUE && celdrinn_do_rebuild(c, "aag 0 0 0 0 0\n", 14) == 0)
         printf("a certificate:\n%s", celdrinn_cert_text(c, &length));
+    if (celdrinn_do(c, "validate") == 0) printf("it is %s\n", celdrinn_line(c));
     celdrinn_free(c);
     return status;
 }

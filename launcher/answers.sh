@@ -19,7 +19,7 @@ finish() {
 child='' beside='' lanes='' within='' words=''
 stop() {
     trap - EXIT
-    [ -z "$child" ] || kill -TERM "$child" 2>/dev/null
+    [ -z "$child" ] || kill -"$killer" "$child" 2>/dev/null
     [ -z "$beside" ] || kill -TERM "$beside" 2>/dev/null
     end_lanes
     [ -z "$child" ] || wait "$child" 2>/dev/null
@@ -39,7 +39,7 @@ end_lanes() {
 # The program ends with the launcher, however that ends, where the system can see to it.
 tie() {
     tied=
-    if setpriv --pdeathsig TERM true 2>/dev/null; then tied='setpriv --pdeathsig TERM'; fi
+    if setpriv --pdeathsig "$killer" true 2>/dev/null; then tied="setpriv --pdeathsig $killer"; fi
 }
 
 # Runs the program with the words of a command, and sets `line`, `status`, and `words`, a file with what it said, or nothing where that
@@ -67,6 +67,7 @@ run() {
     spare_number && eval "exec $number<&0"
     (
         eval "exec <&$number" && close_ours
+        hear_bell
         [ -z "$words" ] || exec 2>"$words"
         [ -z "$is_quiet" ] || { CELDRINN_PROGRESS=0 && export CELDRINN_PROGRESS; }
         exec $tied $within "$program" "$@" >"$work/line"
@@ -74,8 +75,7 @@ run() {
     child=$!
     [ -z "$stats" ] || begin_stats
     [ -z "$is_shown" ] || begin_report "$child"
-    wait "$child"
-    status=$?
+    wait_for_program
     child=
     [ -z "$stats" ] || end_stats
     [ -z "$is_shown" ] || end_report
@@ -139,7 +139,7 @@ trace_words() {
         6) echo "this line names no other, and can't stand by itself" ;;
         7) echo "the two lines that this one names have no literal of the opponent's to resolve on" ;;
         8) echo "a number or the trace is too large" ;;
-        9) echo "both signs of a variable: long-distance resolution is not read" ;;
+        9) echo "no literal to resolve on stands before each variable whose signs differ, or the line has both signs of a variable from nowhere" ;;
         10) echo "a literal of the opponent's is lost" ;;
         11) echo "a literal is taken away before which not all of the opponent's stand" ;;
     esac
@@ -167,6 +167,7 @@ explain() {
         refused\ end\ cause\ 9) tell "$(named LOG)" "all its steps are valid, but they end with other quantifier blocks than $(named OUT) has" ;;
         refused\ end\ cause\ 10) tell "$(named LOG)" "all its steps are valid, but they end with other clauses than $(named OUT) has" ;;
         refused\ end\ cause\ 11) tell "$(named PROOF)" "no step of it makes the empty clause" ;;
+        applied\ *\ broken*) tell "$(named LOG)" "$5" "the log breaks off here, and its $2 whole steps are made" ;;
         extended\ line*) explain_line "$(log_role)" log "$3" extended ;;
         circuits\ line*) explain_line "$(circuits_role)" circuits "$3" "$5" ;;
         circuits\ missing*) tell "$(named "$(circuits_role)")" "variable $3 of $(named "$(formula_role)") needs a circuit, and here is none" ;;
@@ -256,11 +257,11 @@ start() {
         simplify)
             if [ -n "$best" ]; then
                 run_best "$@"
-            elif [ -n "$time" ]; then
-                run_timed "$@"
             else
+                hang_bell
                 run "$command" "$@" $passed
             fi
+            take_bell_down
             ;;
         solve) if [ -n "$bounded" ]; then run_solved "$@"; else run "$command" "$@" $passed; fi ;;
         validate) if [ -n "$solver" ]; then run_decided "$@"; else run "$command" "$@" $passed; fi ;;

@@ -17,6 +17,7 @@ run_best() {
     (close_ours && exec $tied timeout "$best" "$program" simplify "$in" "$work/far" "$work/far.log" $passed --expand=10000 </dev/null >"$work/far.line" 2>/dev/null) &
     far=$!
     beside=$far
+    hang_bell
     # shellcheck disable=SC2086
     run simplify "$in" "$work/near" "$work/near.log" $passed
     kept=near

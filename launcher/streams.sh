@@ -46,7 +46,8 @@ close_ours() {
     done
 }
 
-# Sets `way` to the name under which the program reads a file: its name and role.
+# Sets `way` to the name under which the program reads a file: its name and role. A signal that goes to all is the launcher's to answer: a tool that
+# it ended would cut the file off.
 readers=''
 read_by() {
     way=$1
@@ -64,7 +65,7 @@ read_by() {
     [ -n "$packer" ] || return 0
     way=$work/$2
     mkfifo "$way" || finish 5
-    (close_ours && exec $packer -dc <"$1" >"$way") &
+    (trap '' TERM && close_ours && exec $packer -dc <"$1" >"$way") &
     readers="$readers $!"
 }
 
@@ -102,7 +103,7 @@ write_by() {
     [ "$1" != - ] || { spare_number && is_moved=$number && eval "exec $number>&1" && exec 1>&2; }
     spare_number && eval "exec $number<>\"\$way\" $hold>\"\$way\" $number<\"\$way\""
     if [ "$1" = - ]; then
-        (eval "exec >&$is_moved <&$number" && close_ours && exec cat) &
+        (trap '' TERM && eval "exec >&$is_moved <&$number" && close_ours && exec cat) &
     else
         (eval "exec <&$number" && close_ours && pack $packer "$2" "$1") &
         packed="$packed$2 $packer $1
@@ -118,8 +119,8 @@ read_failed='' write_failed=''
 end_streams() {
     close_ours
     for process in $readers; do
-        kill "$process" 2>/dev/null
-        wait "$process"
+        kill -KILL "$process" 2>/dev/null
+        wait "$process" 2>/dev/null
         code=$?
         [ $code -eq 0 ] || [ $code -gt 128 ] || read_failed=yes
     done

@@ -88,7 +88,7 @@ take_option() {
         stats) stats=yes ;;
         with) solver=${1#*=} ;;
         seconds) seconds=${1#*=} ;;
-        time) time=${1#*=} ;;
+        time) time=${1#*=} passed="$passed $1" ;;
         herbrand) herbrand=$1 ;;
         *) passed="$passed $1" ;;
     esac

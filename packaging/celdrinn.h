@@ -30,6 +30,22 @@ uint8_t celdrinn_rebuild(const uint8_t *in, size_t in_len, const uint8_t *out, s
                          const uint8_t *skolem, size_t skolem_len, uint8_t *cert, size_t cert_room, uint8_t *line, size_t line_room,
                          struct celdrinn_lengths *lengths);
 
+/* Any command: its words, as the program takes them, over files in memory. A word of a file that is given has the file's bytes and
+ * `is_given` 1; the files of all other names do not exist. */
+struct celdrinn_word {
+    const uint8_t *text;
+    size_t text_len;
+    const uint8_t *file;
+    size_t file_len;
+    uint8_t is_given;
+};
+
+/* There are as many lengths as words: each is that of the file which its word names, and 0 where that was given or was not made. The
+ * bytes of all these files go to `made`, one behind the other in the order of the words, where there is room for all of them. 64 also
+ * where a word is no text in UTF-8, or the numbers of words and lengths differ. */
+uint8_t celdrinn_run(const struct celdrinn_word *words, size_t words_count, size_t *lengths, size_t lengths_count, uint8_t *made,
+                     size_t made_room, uint8_t *line, size_t line_room, size_t *line_len);
+
 #ifdef __cplusplus
 }
 #endif

@@ -13,9 +13,12 @@ FOLDER = "a folder"
 
 READS = {"simplify": ["IN"], "check": ["IN", "OUT", "LOG"], "annotate": ["IN", "OUT", "LOG"], "rebuild": ["IN", "OUT", "LOG", "SKOLEM"],
          "refute": ["IN", "OUT", "LOG", "HERBRAND"], "validate": ["IN", "CERT"], "miter": ["IN", "CERT"], "solve": ["IN"],
-         "extract": ["IN", "TRACE"], "disprove": ["IN", "PROOF"], "gen": [], "demo": []}
+         "extract": ["IN", "TRACE"], "disprove": ["IN", "PROOF"], "certified": ["IN", "PROOF"], "apply": ["IN", "LOG"], "gen": [], "demo": []}
 WRITES = {"simplify": ["OUT", "LOG"], "check": [], "annotate": ["HINTED"], "rebuild": ["CERT"], "refute": ["CERT"], "validate": [],
-          "miter": ["OUT"], "solve": ["OUT", "LOG", "CERT"], "extract": ["CERT"], "disprove": [], "gen": ["OUT"], "demo": ["IN", "OUT", "LOG"]}
+          "miter": ["OUT"], "solve": ["OUT", "LOG", "CERT"], "extract": ["CERT"], "disprove": [], "certified": ["CERT"], "apply": ["OUT"], "gen": ["OUT"],
+          "demo": ["IN", "OUT", "LOG"]}
+# the word of a command that is none of these: `disprove` with circuits
+WORDS = {"certified": "disprove"}
 
 
 class Wrong(Exception):
@@ -110,12 +113,12 @@ def are_right(case, answer, right, given, owner, gates):
 
 
 def written_circuits(answer, given, owner, gates):
-    """Circuits that were written, in their canonical order, with so many gates."""
+    """Circuits that were written, in their canonical order, with so many gates if that is told."""
     found = circuits.read(written(answer, "CERT"))
     want(found.inputs == [v for q, v in given.prefix if q != owner], "inputs in the order of the prefix")
     want(list(found.outputs) == [v for q, v in given.prefix if q == owner], "outputs in the order of the prefix")
     want(circuits.misfit(given, found, owner) is None, "circuits that fit")
-    want(len(found.gates) == gates, "as many gates as are told")
+    want(gates is None or len(found.gates) == gates, "as many gates as are told")
     want(set(found.gates) <= circuits.cone(found.gates, list(found.outputs.values())), "no gate that no output needs")
     return found
 
@@ -130,10 +133,12 @@ def simplify(case, answer):
     want(answer.line == f"{words[answer.status]} {first} {last}", f"'{words[answer.status]} {first} {last}'")
     want((answer.status == 10) == (end.matrix == []), "true where no clause is left")
     want((answer.status == 20) == (end.matrix == [frozenset()]), "false where the empty clause is left")
-    want(answer.status != 2 or budget is not None and first - last >= budget, "spent where the budget is")
+    plain = "--plain" in case.options
+    want(answer.status != 2 or plain or budget is not None and first - last >= budget, "spent where the budget is, or in a plain run")
     want(formulas.is_true(start) == formulas.is_true(end), "one truth value")
     judged = None if "LOG" in case.left else logs.judge(start, end, written(answer, "LOG"))
     want(judged is None or judged.refusal is None, f"a right log, and not {judged and judged.refusal}")
+    want(judged is None or not plain or judged.extended is None, "no extended reduction in a plain run")
 
 
 def check(case, answer):
@@ -324,17 +329,40 @@ def extract(case, answer):
     want("CERT" not in answer.files, "no CERT")
 
 
-def disprove(case, answer):
+def refuted(case):
+    """The formula and what is to be said of the proof that it is false."""
     start = formula_in(case, "IN")
     if frozenset() in start.matrix:
-        raise Told(20, "false 0")  # no proof is read
+        return start, logs.Judged(None, 0, None)  # no proof is read
     proof = held(case, "PROOF")
     in_bytes = "--binary" in case.options or logs.is_binary(proof)
     judged = logs.refute(start, (logs.binary_steps if in_bytes else logs.text_steps)(proof))
     if judged.refusal:
         raise Told(1, f"refused {judged.refusal}")
     want(not formulas.is_true(start), "a false formula")
+    return start, judged
+
+
+def disprove(case, answer):
+    _, judged = refuted(case)
     raise Told(20, f"false {judged.steps}")
+
+
+def certified(case, answer):
+    start, judged = refuted(case)
+    if judged.extended:
+        raise Told(8, f"extended line {judged.extended}")
+    want(are_right(case, answer, circuits.are_herbrand, start, "a", None), "Herbrand functions of IN")
+    raise Told(20, f"false {judged.steps}")
+
+
+def apply(case, answer):
+    start = formula_in(case, "IN")
+    made, steps, refusal, broken = logs.apply(start, held(case, "LOG"))
+    if refusal:
+        raise Told(1, f"refused {refusal}")
+    want(logs.Run(made).cause_at_end(written_formula(answer, "OUT")) is None, "the formula behind the steps")
+    raise Told(0, f"applied {steps}" + (f" broken line {broken}" if broken else ""))
 
 
 def is_generated(text, size):
@@ -365,7 +393,7 @@ def demo(case, answer):
 
 
 JUDGES = {"simplify": simplify, "check": check, "annotate": annotate, "rebuild": rebuild, "refute": refute, "validate": validate,
-          "miter": miter, "solve": solve, "extract": extract, "disprove": disprove, "gen": gen, "demo": demo}
+          "miter": miter, "solve": solve, "extract": extract, "disprove": disprove, "certified": certified, "apply": apply, "gen": gen, "demo": demo}
 
 
 def judge(case, answer):
@@ -393,6 +421,8 @@ def judge(case, answer):
 
 def made_last(case):
     """The files that are made once nothing is refused."""
+    if case.verb == "apply":
+        return {"OUT"}
     return {"CERT", "HINTED"} & set(WRITES[case.verb]) if case.verb != "solve" else set()
 
 

@@ -24,7 +24,7 @@ import circuits
 import formulas
 import logs
 import making
-from commands import FOLDER, READS, WRITES, Answer, Case, judge
+from commands import FOLDER, READS, WORDS, WRITES, Answer, Case, judge
 
 HERE = os.path.dirname(os.path.realpath(__file__))
 PROGRAM = os.path.realpath(os.environ.get("CELDRINN", os.path.join(HERE, "..", "..", "dist", "celdrinn-x86_64-linux")))
@@ -59,7 +59,7 @@ class Player:
         names = list(dict.fromkeys(READS[case.verb] + WRITES[case.verb]))
         place = {name: "/" * k + "dev/null" for k, name in enumerate(sorted(case.left), 1)}
         place.update(dict([case.fault]) if case.fault and case.fault[0] != "size" else {})
-        return [case.verb, *numbers, *(place.get(n, n) for n in names), *(o for o in case.options if o.startswith("--"))]
+        return [WORDS.get(case.verb, case.verb), *numbers, *(place.get(n, n) for n in names), *(o for o in case.options if o.startswith("--"))]
 
     def play(self, case):
         """The answer to a case."""
@@ -103,6 +103,8 @@ class Maker:
         if verb == "simplify":
             for name, most in (("budget", 30), ("grow", 20), ("expand", 60)):
                 found += [f"--{name}={rng.randint(0, most)}"] if rng.random() < 0.25 else []
+            found += ["--plain"] if rng.random() < 0.2 else []
+            found += [f"--time={rng.randint(1000, 2**32 - 1)}"] if rng.random() < 0.1 else []
         elif verb in ("validate", "solve") and rng.random() < 0.4:
             found.append(f"--budget={rng.randint(0, 12)}")
         elif verb == "miter" and rng.random() < 0.5:
@@ -156,6 +158,10 @@ class Maker:
             if verb != "annotate" and self.rng.random() < 0.5:
                 hinted = self.player.play(Case("annotate", [], dict(files), None)).files.get("HINTED")
                 files["LOG"] = hinted if hinted is not None else files["LOG"]
+        if verb == "apply":
+            del files["OUT"]
+            if self.rng.random() < 0.4:
+                files["LOG"] = files["LOG"][: self.rng.randint(0, len(files["LOG"]))]
         if verb == "rebuild":
             files["SKOLEM"] = self.circuits_for(files["OUT"], owner)
         elif verb == "refute":
@@ -164,7 +170,7 @@ class Maker:
             files["CERT"] = self.circuits_for(text, owner)
         elif verb == "extract":
             files["TRACE"] = self.trace_for(text)
-        elif verb == "disprove":
+        elif verb in ("disprove", "certified"):
             files["PROOF"] = self.proof_for(text, options)
         return files
 

@@ -378,7 +378,39 @@ def refute(formula, steps):
             count += 1
     except Refused as refused:
         return Judged(f"line {refused.refusal.line} cause {refused.refusal.cause}", count, None)
-    return Judged(None, count, None)
+    return Judged(None, count, run.extended)
+
+
+def whole_steps(text):
+    """The whole steps of a log of either profile; then the line on which it breaks off, or of a bad line, if there is one, and whether it is bad."""
+    words, hinted, steps = Words(text), is_hinted(text), []
+    try:
+        if hinted:
+            for wanted in (b"p", b"qrat", b"2"):
+                if words.peek()[1] != wanted and not (wanted == b"2" and number(words.peek()[1]) == 2):
+                    raise words.bad()
+                words.at += 1
+        while not words.is_over():
+            steps.append(read_hinted(words).step if hinted else read_step(words))
+    except Refused as refused:
+        # the last word may go on, where nothing stands behind it
+        may_go_on = words.at == len(words.words) - 1 and tokens(text + b"1")[0][-1][1] == words.words[-1][1] + b"1"
+        return steps, refused.refusal.line, not (words.is_over() or may_go_on)
+    return steps, None, False
+
+
+def apply(formula, text):
+    """The formula behind the steps of a log, their number, what is refused of them, and the line on which the log breaks off."""
+    steps, line, is_bad = whole_steps(text)
+    run = Run(formula)
+    for step in steps:
+        cause = run.making_cause(step)
+        if cause:
+            return None, 0, f"line {step.line} cause {cause}", None
+        run.make(step, None, False)
+    if is_bad:
+        return None, 0, f"line {line} cause 1", None
+    return run.formula(), len(steps), None, line
 
 
 def text_steps(text):

@@ -24,9 +24,12 @@ enum celdrinn_status {
     CELDRINN_STOPPED = 2,   /* simplify: a limit came first. OUT and LOG are there and belong together */
     CELDRINN_INPUT = 3,     /* a file is no formula */
     CELDRINN_NO_MEMORY = 6, /* or a limit came before there was anything to hand out */
-    CELDRINN_CIRCUITS = 7,  /* rebuild: the circuits don't fit */
-    CELDRINN_TRUE = 10,     /* simplify: no clause is left */
-    CELDRINN_FALSE = 20,    /* simplify: the empty clause is left */
+    CELDRINN_CIRCUITS = 7,  /* rebuild, refute, validate, miter: the circuits don't fit */
+    CELDRINN_EXTENDED = 8,  /* refute: a step can't be carried back */
+    CELDRINN_INVALID = 9,   /* validate: the circuits are wrong; the line has values of the universals */
+    CELDRINN_TRUE = 10,     /* simplify: no clause is left; solve: there are Skolem functions */
+    CELDRINN_UNKNOWN = 12,  /* solve, validate: the budget was too small; extract: the trace says so */
+    CELDRINN_FALSE = 20,    /* simplify: the empty clause is left; solve, disprove */
     CELDRINN_USAGE = 64     /* a call out of order, or an argument out of range */
 };
 
@@ -36,7 +39,22 @@ const char *celdrinn_status_text(int status);
 celdrinn *celdrinn_new(void); /* NULL: no memory */
 void celdrinn_free(celdrinn *);
 
-/* "grow", "expand" (at most 10000), "budget" (UINT64_MAX: none); 64 where there is no such option, or this library has none */
+/* What commands are asked for besides their files; a command looks at those that it takes. `size` is that of the struct, so that later
+ * versions can have more behind: set all with CELDRINN_OPTIONS, and then what is wanted. */
+struct celdrinn_options {
+    size_t size;
+    uint32_t grow, expand;   /* simplify: at most 10000 */
+    uint64_t budget;         /* simplify, solve, validate; UINT64_MAX: none */
+    uint32_t part, parts;    /* check, annotate, disprove: the part of this number, from 1, of so many; 0 parts: all */
+    uint32_t herbrand;       /* miter, 1: the circuits are those of the universals */
+    uint32_t binary;         /* disprove, 1: what could be a text is read as a binary proof */
+    uint64_t seed;           /* gen */
+    uint32_t clauses;        /* gen: 1 to 100000 */
+    uint32_t plain;          /* simplify, 1: no step over which refute carries nothing back */
+};
+#define CELDRINN_OPTIONS {sizeof(struct celdrinn_options), 0, 16, UINT64_MAX, 0, 0, 0, 0, 1, 1, 0}
+int celdrinn_set_options(celdrinn *, const struct celdrinn_options *); /* 64: one is out of range, or not known here */
+/* one of them by its name, but `part` and `parts` */
 int celdrinn_set(celdrinn *, const char *option, uint64_t value);
 
 /* --- limits; they hold for each call that works, from its start --- */
@@ -47,13 +65,27 @@ void celdrinn_limit_memory(celdrinn *, size_t bytes);     /* 0: none */
 void celdrinn_set_terminate(celdrinn *, void *state, int (*terminate)(void *state));
 void celdrinn_stop(celdrinn *);                           /* from any thread, or a signal handler; later calls on it end at once */
 
-/* --- IN: blocks from the outermost in, then clauses as ipasir_add takes them; or the text --- */
+/* --- IN: blocks from the outermost in, then clauses as ipasir_add takes them; or the text. Once a command has read it nothing is added --- */
 int celdrinn_block(celdrinn *, int quantifier /* 'e' or 'a' */, const int *variables, size_t count);
 int celdrinn_add(celdrinn *, int literal_or_0);
 int celdrinn_clauses(celdrinn *, const int *literals, size_t count); /* many at once, each ended by 0 */
 int celdrinn_text(celdrinn *, const void *qdimacs, size_t length);
 
-/* --- work --- */
+/* --- files: each `celdrinn` is a folder in memory, whose files have the names of the commands' operands ---
+ *
+ *   simplify  IN -> OUT LOG               validate  IN CERT
+ *   check     IN OUT LOG                  solve     IN -> OUT LOG CERT
+ *   rebuild   IN OUT LOG SKOLEM -> CERT   extract   IN TRACE -> CERT
+ *   refute    IN OUT LOG HERBRAND -> CERT miter     IN CERT -> MITER
+ *   annotate  IN OUT LOG -> HINTED        disprove  IN PROOF
+ *   apply     IN LOG -> OUT               gen       -> IN
+ *
+ * A command reads those before the arrow, and makes those behind it; what it does not make is taken away. */
+int celdrinn_put(celdrinn *, const char *name, const void *bytes, size_t length); /* a copy; NULL takes the file away */
+const char *celdrinn_get(celdrinn *, const char *name, size_t *length);           /* NULL: no such file; a 0 stands behind the last byte */
+int celdrinn_do(celdrinn *, const char *command);                                 /* its exit status; 64 where a file is missing */
+
+/* --- the same by calls of their own --- */
 int celdrinn_do_simplify(celdrinn *); /* 2: the budget is spent, or a limit came first, and then the line begins with `stopped` */
 /* takes OUT and LOG of an earlier run as the results, so that the calls below speak of them */
 int celdrinn_results(celdrinn *, const void *out, size_t out_length, const void *log, size_t log_length);

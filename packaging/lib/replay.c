@@ -1,43 +1,12 @@
 /* OUT of a stopped run: the steps of its log are made on IN, one after the other. Nothing here is proved, and nothing is judged:
  * celdrinn_check says whether LOG leads to what this makes. */
-#define _GNU_SOURCE
 #include "replay.h"
+#include "folder.h"
 #include <limits.h>
 #include <stdint.h>
 #include <stdio.h>
 #include <stdlib.h>
 #include <string.h>
-#include <sys/mman.h>
-
-struct ints {
-    int *at;
-    size_t size, room;
-};
-static int grow(void **at, size_t *room, size_t wanted, size_t each) {
-    if (wanted <= *room) return 1;
-    size_t next = *room < 64 ? 64 : *room;
-    while (next < wanted) next += next / 2;
-    void *to = realloc(*at, next * each);
-    if (to == NULL) return 0;
-    *at = to;
-    *room = next;
-    return 1;
-}
-static int push(struct ints *v, int x) {
-    if (v->size == v->room && !grow((void **)&v->at, &v->room, v->size + 1, sizeof(int))) return 0;
-    v->at[v->size++] = x;
-    return 1;
-}
-static char *put_int(char *p, int x) {
-    char digits[12];
-    int n = 0;
-    unsigned u = x < 0 ? 0u - (unsigned)x : (unsigned)x;
-    if (x < 0) *p++ = '-';
-    do digits[n++] = (char)('0' + u % 10), u /= 10;
-    while (u);
-    while (n) *p++ = digits[--n];
-    return p;
-}
 
 struct clauses {
     struct ints lits;                     /* each clause: its length, then its literals in order */
@@ -86,7 +55,7 @@ static int enlarge(struct clauses *s) {
 }
 static int keep(struct clauses *s, int *l, int n) {
     n = in_order(l, n);
-    if (!enlarge(s) || !grow((void **)&s->lits.at, &s->lits.room, s->lits.size + (size_t)n + 1, sizeof(int))) return 0;
+    if (!enlarge(s) || !celdrinn_room_for((void **)&s->lits.at, &s->lits.room, s->lits.size + (size_t)n + 1, sizeof(int))) return 0;
     size_t h = hash_of(l, n) & (s->room - 1), i = s->count++;
     s->at[i] = s->lits.size;
     s->lits.at[s->lits.size++] = n;
@@ -186,15 +155,15 @@ static int read_in(const char *in, size_t in_size, struct clauses *s, struct rin
         if (x == LETTER + 'p') read_header(&t);
         else if (x >= LETTER) set = x - LETTER;
         else if (set && x == 0) set = 0;
-        else if (set) ok = push(&bound, set) && push(&bound, x);
+        else if (set) ok = celdrinn_push(&bound, set) && celdrinn_push(&bound, x);
         else if (x == 0) ok = keep(s, row->at, (int)row->size), row->size = 0;
         else {
             int v = abs(x);
             if (v > largest) largest = v;
             size_t was = used_room;
-            ok = grow((void **)&used, &used_room, (size_t)v + 1, 1);
+            ok = celdrinn_room_for((void **)&used, &used_room, (size_t)v + 1, 1);
             if (ok && used_room > was) memset(used + was, 0, used_room - was);
-            if (ok) used[v] |= 1, ok = push(row, x);
+            if (ok) used[v] |= 1, ok = celdrinn_push(row, x);
         }
     }
     /* variables of no set come first, existential */
@@ -236,18 +205,18 @@ static char *put_formula(char *p, const struct clauses *s, const struct ring *r)
             if (last) p = memcpy(p, " 0\n", 3), p += 3;
             *p++ = last = r->q[v];
         }
-        *p++ = ' ', p = put_int(p, v);
+        *p++ = ' ', p = celdrinn_put_int(p, v);
     }
     if (last) p = memcpy(p, " 0\n", 3), p += 3;
     for (size_t i = 0; i < s->count; i++) {
         const int *l = s->lits.at + s->at[i];
-        for (int k = 1; k <= l[0]; k++) p = put_int(p, l[k]), *p++ = ' ';
+        for (int k = 1; k <= l[0]; k++) p = celdrinn_put_int(p, l[k]), *p++ = ' ';
         if (l[0] >= 0) *p++ = '0', *p++ = '\n';
     }
     return p;
 }
 
-int celdrinn_replay(const char *in, size_t in_size, const char *log, size_t log_size, char **out, size_t *room, size_t *size) {
+int celdrinn_replay(const char *in, size_t in_size, const char *log, size_t log_size, char **out, size_t *size) {
     struct clauses s = {0};
     struct ring r = {0};
     struct ints row = {0};
@@ -257,12 +226,15 @@ int celdrinn_replay(const char *in, size_t in_size, const char *log, size_t log_
     while (ok && next_token(&t, &x)) {
         if (x >= LETTER) kind = x - LETTER;
         else if (x == 0 && !(kind == 'e' && row.size == 1)) ok = step(&s, &r, &row, kind), kind = 0, row.size = 0;
-        else ok = push(&row, x);
+        else ok = celdrinn_push(&row, x);
     }
-    *room = 64 + 12 * s.lits.size + 16 * r.room;
-    void *at = ok ? mmap(NULL, *room, PROT_READ | PROT_WRITE, MAP_PRIVATE | MAP_ANONYMOUS | MAP_NORESERVE, -1, 0) : MAP_FAILED;
-    ok = at != MAP_FAILED;
-    if (ok) *out = at, *size = (size_t)(put_formula(at, &s, &r) - (char *)at);
+    char *at = ok ? malloc(64 + 12 * s.lits.size + 16 * r.room) : NULL; /* the most that the text may take */
+    ok = at != NULL;
+    if (ok) {
+        char *stop = put_formula(at, &s, &r);
+        *stop = 0;
+        *out = at, *size = (size_t)(stop - at);
+    }
     free(s.lits.at), free(s.table), free(s.next), free(s.at), free(r.after), free(r.before), free(r.q), free(row.at);
     return ok;
 }

@@ -11,10 +11,10 @@
 A clause is an iterable of non-zero ints, a prefix a list of blocks ("a" or "e", variables), from the outermost in. Variables of no block
 are existential and come first.
 
-`simplify`, `check` and `rebuild` are calls of the shared library, where it is found: CELDRINN_LIBRARY names it, else libceldrinn.so.1 is
-looked for beside this file and where the system has its libraries; with CELDRINN_LIBRARY empty it is not used. All else, and what the
-library has no options for, runs the program, which CELDRINN names, else `celdrinn` of the PATH, over files in a folder of its own. Both
-do the same. A call can be interrupted with Ctrl-C, and `seconds` limits it.
+Calls go to the shared library, where it is found: CELDRINN_LIBRARY names it, else libceldrinn.so.1 is looked for beside this file and
+where the system has its libraries. Where it is not, and with CELDRINN_LIBRARY empty, they run the program, which CELDRINN names, else
+`celdrinn` of the PATH, over files in a folder of its own. Both do the same. A call can be interrupted with Ctrl-C, and `seconds` limits
+it.
 """
 from __future__ import annotations
 
@@ -33,7 +33,8 @@ Block = Tuple[str, List[int]]
 Clauses = Iterable[Iterable[int]]
 Prefix = Sequence[Tuple[str, Iterable[int]]]
 
-__all__ = ["simplify", "check", "rebuild", "refute", "annotate", "validate", "solve", "read", "write", "Simplified", "Certificate",
+__all__ = ["simplify", "check", "rebuild", "refute", "annotate", "validate", "solve", "apply", "extract", "disprove", "miter", "generate",
+           "read", "write", "Simplified", "Certificate",
            "CeldrinnError", "FormulaError", "LogError", "CircuitError", "OutOfMemory", "Stopped", "NotFound", "version"]
 
 
@@ -46,9 +47,9 @@ class CeldrinnError(Exception):
     def __init__(self, text: str, status: int):
         super().__init__(text)
         self.text, self.status = text, status
-        place = re.search(r"line (\d+) cause (\d+)", text)
-        self.line: Optional[int] = int(place[1]) if place else None
-        self.cause: Optional[int] = int(place[2]) if place else None
+        line, cause = re.search(r"line (\d+)", text), re.search(r"cause (\d+)", text)
+        self.line: Optional[int] = int(line[1]) if line else None
+        self.cause: Optional[int] = int(cause[1]) if cause else None
 
 
 class FormulaError(CeldrinnError):
@@ -213,10 +214,22 @@ class _Answer:
         raise _ERRORS.get(self.status, CeldrinnError)(self.line or f"status {self.status}", self.status)
 
 
-# Which files a command takes, in the order of its words, and which it makes.
+# Which files a command takes, in the order of its words, and which it makes. Those of `gen` stand behind two numbers.
 _TAKES = {"simplify": ["IN"], "check": ["IN", "OUT", "LOG"], "rebuild": ["IN", "OUT", "LOG", "SKOLEM"],
-          "refute": ["IN", "OUT", "LOG", "HERBRAND"], "annotate": ["IN", "OUT", "LOG"], "validate": ["IN", "CERT"], "solve": ["IN"]}
-_MAKES = {"simplify": ["OUT", "LOG"], "rebuild": ["CERT"], "refute": ["CERT"], "annotate": ["HINTED"], "solve": ["OUT", "LOG", "CERT"]}
+          "refute": ["IN", "OUT", "LOG", "HERBRAND"], "annotate": ["IN", "OUT", "LOG"], "validate": ["IN", "CERT"], "solve": ["IN"],
+          "extract": ["IN", "TRACE"], "disprove": ["IN", "PROOF"], "miter": ["IN", "CERT"], "apply": ["IN", "LOG"],
+          "gen": []}
+_MAKES = {"simplify": ["OUT", "LOG"], "rebuild": ["CERT"], "refute": ["CERT"], "annotate": ["HINTED"], "solve": ["OUT", "LOG", "CERT"],
+          "extract": ["CERT"], "miter": ["MITER"], "apply": ["OUT"], "gen": ["IN"]}
+_SCALE = ["seed", "clauses"]
+
+
+def _words(verb: str, options: Mapping[str, int]) -> List[str]:
+    """The words of a command behind its verb."""
+    numbers = [str(options[name]) for name in _SCALE if name in options]
+    flags = [f"--{name}" if value is True else f"--{name}={value}" for name, value in options.items()
+             if name not in _SCALE and value is not False]
+    return numbers + _TAKES[verb] + _MAKES.get(verb, []) + flags
 
 
 class _Program:
@@ -225,15 +238,13 @@ class _Program:
 
     def run(self, verb: str, texts: Sequence[bytes], options: Mapping[str, int], seconds: Optional[float]) -> _Answer:
         """One command over files in a folder of its own."""
-        names = _TAKES[verb] + _MAKES.get(verb, [])
         with tempfile.TemporaryDirectory(prefix="celdrinn-") as folder:
             for name, text in zip(_TAKES[verb], texts):
                 with open(os.path.join(folder, name), "wb") as it:
                     it.write(text)
-            words = [self.path, verb, *names, *(f"--{name}={value}" for name, value in options.items())]
             try:
-                done = subprocess.run(words, cwd=folder, stdin=subprocess.DEVNULL, stdout=subprocess.PIPE, stderr=subprocess.DEVNULL,
-                                      timeout=seconds, env={**os.environ, "CELDRINN_PROGRESS": "0"})
+                done = subprocess.run([self.path, verb, *_words(verb, options)], cwd=folder, stdin=subprocess.DEVNULL, stdout=subprocess.PIPE,
+                                      stderr=subprocess.DEVNULL, timeout=seconds, env={**os.environ, "CELDRINN_PROGRESS": "0"})
             except subprocess.TimeoutExpired:
                 return _Answer(6, "stopped: time is over", {})
             files = {}
@@ -254,77 +265,63 @@ def _program() -> _Program:
 
 # --- the library ---
 
-_OUT_OF_MEMORY, _USAGE = 6, 64
-
-
 class _Library:
     """The shared library of packaging/lib. A call of it runs in a thread of its own, so that its caller can be interrupted meanwhile."""
 
     def __init__(self, path: str):
         self._lib = ctypes.CDLL(path)
         handle, count, size, text = ctypes.c_void_p, ctypes.c_int, ctypes.c_size_t, ctypes.c_char_p
-        length = ctypes.POINTER(ctypes.c_size_t)
         for name, result, arguments in (
                 ("version", text, []), ("new", handle, []), ("free", None, [handle]), ("limit_seconds", None, [handle, ctypes.c_double]),
-                ("stop", None, [handle]), ("set", count, [handle, text, ctypes.c_uint64]), ("text", count, [handle, text, size]),
-                ("results", count, [handle, text, size, text, size]), ("do_simplify", count, [handle]), ("do_check", count, [handle]),
-                ("do_rebuild", count, [handle, text, size]), ("line", text, [handle]), ("out_text", handle, [handle, length]),
-                ("log_text", handle, [handle, length]), ("cert_text", handle, [handle, length])):
+                ("stop", None, [handle]), ("set", count, [handle, text, ctypes.c_uint64]), ("put", count, [handle, text, text, size]),
+                ("get", handle, [handle, text, ctypes.POINTER(size)]), ("do", count, [handle, text]), ("line", text, [handle])):
             call = getattr(self._lib, "celdrinn_" + name)
             call.restype, call.argtypes = result, arguments
-        probe = self._call("new")
-        self._has_options = bool(probe) and self._call("set", probe, b"grow", 0) == 0
-        self._call("free", probe)
 
     def version(self) -> str:
         return self._call("version").decode()
 
-    def can(self, verb: str, options: Mapping[str, int]) -> bool:
-        return verb in ("simplify", "check", "rebuild") and (self._has_options or not options)
-
     def run(self, verb: str, texts: Sequence[bytes], options: Mapping[str, int], seconds: Optional[float]) -> _Answer:
         handle = self._call("new")
         if not handle:
-            return _Answer(_OUT_OF_MEMORY, "no memory", {})
+            return _Answer(6, "no memory", {})
         try:
-            status = self._prepare(handle, texts, options, seconds)
+            status = self._prepare(handle, verb, texts, options, seconds)
             if status == 0:
-                status = self._work(handle, verb, texts)
+                status = self._work(handle, verb)
             line = self._call("line", handle).decode()
-            made = {name: self._bytes(name.lower() + "_text", handle) for name in _MAKES.get(verb, [])}
-            return _Answer(status, line, made)
+            made = {name: self._bytes(handle, name) for name in _MAKES.get(verb, [])}
+            return _Answer(status, line, {name: text for name, text in made.items() if text is not None})
         finally:
             self._call("free", handle)
 
     def _call(self, name: str, *arguments: Any) -> Any:
         return getattr(self._lib, "celdrinn_" + name)(*arguments)
 
-    def _bytes(self, name: str, handle: int) -> bytes:
+    def _bytes(self, handle: int, name: str) -> Optional[bytes]:
         length = ctypes.c_size_t()
-        at = self._call(name, handle, ctypes.byref(length))
-        return ctypes.string_at(at, length.value)
+        at = self._call("get", handle, name.encode(), ctypes.byref(length))
+        return ctypes.string_at(at, length.value) if at else None
 
-    def _prepare(self, handle: int, texts: Sequence[bytes], options: Mapping[str, int], seconds: Optional[float]) -> int:
-        status = self._call("text", handle, texts[0], len(texts[0]))
-        for name, value in options.items():
-            status = status or self._call("set", handle, name.encode(), value)
+    def _prepare(self, handle: int, verb: str, texts: Sequence[bytes], options: Mapping[str, int], seconds: Optional[float]) -> int:
         self._call("limit_seconds", handle, seconds or 0.0)
-        if status == 0 and len(texts) > 1:
-            out, log = texts[1], texts[2]
-            status = self._call("results", handle, out, len(out), log, len(log))
+        status = 0
+        for name, text in zip(_TAKES[verb], texts):
+            status = status or self._call("put", handle, name.encode(), text, len(text))
+        for option, value in options.items():
+            status = status or self._call("set", handle, option.encode(), int(value))
         return status
 
-    def _work(self, handle: int, verb: str, texts: Sequence[bytes]) -> int:
-        arguments = [texts[3], len(texts[3])] if verb == "rebuild" else []
+    def _work(self, handle: int, verb: str) -> int:
         if threading.current_thread() is not threading.main_thread():
-            return self._call("do_" + verb, handle, *arguments)
+            return self._call("do", handle, verb.encode())
         # An Event, since Thread.join says of a thread that it ended where a signal interrupts it (CPython 3.10 to 3.12 at least).
         answer: List[int] = []
         done = threading.Event()
 
         def work() -> None:
             try:
-                answer.append(self._call("do_" + verb, handle, *arguments))
+                answer.append(self._call("do", handle, verb.encode()))
             finally:
                 done.set()
 
@@ -370,15 +367,16 @@ def version() -> str:
     return subprocess.run([_program().path, "--version"], stdout=subprocess.PIPE, check=True).stdout.decode().splitlines()[0]
 
 
+_RANGES = {"grow": (0, 10000), "expand": (0, 10000), "budget": (0, 2 ** 64 - 1), "seed": (0, 2 ** 64 - 1), "clauses": (1, 100000)}
+
+
 def _run(verb: str, texts: Sequence[bytes], seconds: Optional[float], **options: Optional[int]) -> _Answer:
     chosen = {name: value for name, value in options.items() if value is not None}
     for name, value in chosen.items():
-        if not 0 <= value <= (2 ** 64 - 1 if name == "budget" else 10000):
+        least, most = _RANGES.get(name, (0, 1))
+        if not least <= value <= most:
             raise FormulaError(f"{name}={value} is out of range", 64)
-    library = _library()
-    if library is not None and library.can(verb, chosen):
-        return library.run(verb, texts, chosen, seconds)
-    return _program().run(verb, texts, chosen, seconds)
+    return (_library() or _program()).run(verb, texts, chosen, seconds)
 
 
 def _source(clauses: Union[Clauses, bytes], prefix: Prefix) -> bytes:
@@ -443,13 +441,13 @@ class Simplified:
 
 
 def simplify(clauses: Union[Clauses, bytes], prefix: Prefix = (), *, grow: Optional[int] = None, expand: Optional[int] = None,
-             budget: Optional[int] = None, seconds: Optional[float] = None) -> Simplified:
+             budget: Optional[int] = None, plain: Optional[bool] = None, seconds: Optional[float] = None) -> Simplified:
     """Takes rules as long as one applies.
 
-    clauses: lists of ints, or a QDIMACS text as bytes. grow, expand, budget: as the program's options. seconds: where this limit comes
+    clauses: lists of ints, or a QDIMACS text as bytes. grow, expand, budget, plain: as the program's options. seconds: where this limit comes
     first, Stopped is raised; with the library its `result` has what was done until then."""
     source = _source(clauses, prefix)
-    answer = _run("simplify", [source], seconds, grow=grow, expand=expand, budget=budget)
+    answer = _run("simplify", [source], seconds, grow=grow, expand=expand, budget=budget, plain=plain)
     is_stopped = answer.line.startswith("stopped")
     if not is_stopped or answer.status != 2:
         answer.wanted(0, 2, 10, 20)
@@ -486,13 +484,45 @@ def validate(source: bytes, cert: Circuits, *, budget: Optional[int] = None, sec
     where they are not; None where the budget was too small."""
     answer = _run("validate", [source, _circuits(cert)], seconds, budget=budget).wanted(0, 9, 12)
     if answer.status == 9:
-        return [int(word) for word in answer.line.split()[1:] if word != "0"]
+        return [int(word) for word in answer.line.split()[1:]]
     return True if answer.status == 0 else None
 
 
-def solve(clauses: Union[Clauses, bytes], prefix: Prefix = (), *, budget: Optional[int] = None, seconds: Optional[float] = None) -> Tuple[Optional[bool], Optional[Certificate]]:
+Decided = Tuple[Optional[bool], Optional[Certificate]]
+
+
+def _decided(answer: _Answer, is_known: Mapping[int, Optional[bool]]) -> Decided:
+    return is_known[answer.status], Certificate(answer.files["CERT"]) if "CERT" in answer.files else None
+
+
+def solve(clauses: Union[Clauses, bytes], prefix: Prefix = (), *, budget: Optional[int] = None, seconds: Optional[float] = None) -> Decided:
     """The truth value of a small formula, and Skolem functions where it is true; None where the budget was too small."""
     answer = _run("solve", [_source(clauses, prefix)], seconds, budget=budget).wanted(10, 12, 20)
-    if answer.status == 10:
-        return True, Certificate(answer.files["CERT"])
-    return (False, None) if answer.status == 20 else (None, None)
+    return _decided(answer, {10: True, 12: None, 20: False})
+
+
+def extract(source: bytes, trace: bytes, *, seconds: Optional[float] = None) -> Decided:
+    """The truth value that a solver's resolution proof shows (text QRP), with Skolem functions of a true formula or Herbrand functions of a
+    false one; None where the trace says that the solver did not know, LogError where it proves nothing."""
+    answer = _run("extract", [source, trace], seconds).wanted(10, 12, 20)
+    return _decided(answer, {10: True, 12: None, 20: False})
+
+
+def apply(source: bytes, log: bytes, *, seconds: Optional[float] = None) -> bytes:
+    """The formula to which the steps of a log lead, as a QDIMACS text."""
+    return _run("apply", [source, log], seconds).wanted(0).files["OUT"]
+
+
+def disprove(source: bytes, proof: bytes, *, binary: bool = False, seconds: Optional[float] = None) -> int:
+    """The number of steps after which a SAT solver's proof, or a log, has shown that the formula is false; LogError where it doesn't."""
+    return int(_run("disprove", [source, proof], seconds, binary=binary).wanted(20).line.split()[1])
+
+
+def miter(source: bytes, cert: Circuits, *, herbrand: bool = False, seconds: Optional[float] = None) -> List[List[int]]:
+    """Clauses that have no model exactly where the circuits are Skolem functions of the formula, or with `herbrand` Herbrand functions."""
+    return read(_run("miter", [source, _circuits(cert)], seconds, herbrand=herbrand).wanted(0).files["MITER"])[0]
+
+
+def generate(seed: int, clauses: int) -> bytes:
+    """A random formula of so many clauses, as a QDIMACS text."""
+    return _run("gen", [], None, seed=seed, clauses=clauses).wanted(0).files["IN"]

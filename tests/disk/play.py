@@ -5,7 +5,7 @@
 
 A row's files are made in a folder, its commands are run there, and what they answer and leave is what the row wants of files in memory. Each row is played
 three times: over plain files; with what is read behind pipes that give few bytes at a time, which leaves the same; and with a limit on the size of files, where each command
-does what it did, or says 'write fault' and leaves a front of what it left without a limit. Rows with planned faults, limits or guides are left to memory.
+does what it did, or says 'write fault' and leaves a front of what it left without a limit. Rows with planned faults, limits, guides or alarms are left to memory.
 One line is put for each row, and one that counts them.
 """
 import os
@@ -19,7 +19,7 @@ import threading
 
 # the program takes other moves than rows do, which name their guides: what these leave is compared with itself
 MOVING = ("simplify", "solve", "demo")
-MEMORY_ALONE = ("fault", "limits", "guide", "guides", "memory")
+MEMORY_ALONE = ("fault", "limits", "guide", "guides", "memory", "ring", "alarm")
 # so many bytes come in pieces, and the others at once
 PIECE, FEW = 7, 70
 
@@ -110,7 +110,7 @@ class Folder:
 
 
 # how many names each command reads; what it writes may be read by a later line of the row
-READS = {"check": 3, "annotate": 3, "rebuild": 4, "refute": 4, "validate": 2, "disprove": 2, "miter": 2, "extract": 2, "simplify": 1, "solve": 1}
+READS = {"check": 3, "annotate": 3, "rebuild": 4, "refute": 4, "validate": 2, "disprove": 2, "miter": 2, "extract": 2, "apply": 2, "simplify": 1, "solve": 1}
 
 
 class Pipes:

@@ -1,19 +1,14 @@
 /* Plays the library for C: `ok NAME` or `wrong NAME: why` for each row, and status 1 where one is wrong. What is wanted is found by brute
  * force, or by hand. Usage: test [small | once]: `small` leaves out what takes long, `once` makes one call and says its status. */
 #include "celdrinn2.h"
-#include "celdrinn.h"
+#include "rows.h"
 #include <pthread.h>
 #include <stdio.h>
 #include <stdlib.h>
 #include <string.h>
 
-static const char *row;
-static int wrong;
-#define WANT(what) \
-    do { \
-        if (!(what)) return printf("wrong %s: line %d, %s\n", row, __LINE__, #what), wrong = 1, (void)0; \
-    } while (0)
-#define PASS() ((void)printf("ok %s\n", row))
+const char *row;
+int wrong;
 
 static unsigned long seed = 1;
 static int below(int n) { return seed = seed * 6364136223846793005u + 1442695040888963407u, (int)((seed >> 33) % (unsigned)n); }
@@ -31,7 +26,7 @@ static int *random_clauses(int vars, int count) {
     }
     return lits;
 }
-static int holds(const int *lits, size_t size, const char *value) {
+int holds(const int *lits, size_t size, const char *value) {
     int is_true = 0;
     for (size_t i = 0; i < size; i++) {
         if (lits[i] == 0) {
@@ -43,7 +38,7 @@ static int holds(const int *lits, size_t size, const char *value) {
     return 1;
 }
 /* a model by brute force, over at most twenty variables */
-static int find_model(const int *lits, size_t size, int vars, char *value) {
+int find_model(const int *lits, size_t size, int vars, char *value) {
     for (unsigned bits = 0; bits < 1u << vars; bits++) {
         for (int v = 1; v <= vars; v++) value[v] = (char)(bits >> (v - 1) & 1);
         if (holds(lits, size, value)) return 1;
@@ -51,7 +46,7 @@ static int find_model(const int *lits, size_t size, int vars, char *value) {
     return 0;
 }
 /* the values of circuits without inputs */
-static int read_constants(const char *text, char *value) {
+int read_constants(const char *text, char *value) {
     int inputs, latches, outputs, gates, top, root[64], named = 0;
     if (sscanf(text, "aag %d %d %d %d %d", &top, &inputs, &latches, &outputs, &gates) != 5 || inputs || latches || gates || outputs > 64) return 0;
     for (int i = 0; i < outputs; i++) {
@@ -234,7 +229,7 @@ static int play_once(void) {
     if (status == CELDRINN_TRUE) status = celdrinn_do_check(c);
     if (!status) status = celdrinn_do_rebuild(c, "aag 0 0 0 0 0\n", 14);
     celdrinn_free(c);
-    return status;
+    return status ? status : play_each_once();
 }
 
 int main(int argc, char **argv) {
@@ -247,6 +242,7 @@ int main(int argc, char **argv) {
     play_misuse();
     play_refusal();
     play_models(is_small ? 20 : 400);
+    play_commands();
     play_threads();
     if (!is_small) {
         play_stop("a limit of seconds", 0.3, 0, NULL);

@@ -52,6 +52,11 @@ def truth(clauses, blocks, top):
     return go(0, {})
 
 
+def has_model(clauses):
+    top = max((abs(x) for c in clauses for x in c), default=0)
+    return any(all(any(bits[abs(x) - 1] is (x > 0) for x in c) for c in clauses) for bits in itertools.product((False, True), repeat=top))
+
+
 def are_skolem(clauses, blocks, cert):
     universals = [x for q, vs in blocks if q == "a" for x in vs]
     for bits in itertools.product((False, True), repeat=len(universals)):
@@ -130,6 +135,34 @@ def play_errors():
     assert celdrinn.validate(good.source, b"aag 1 1 0 1 0\n2\n2\ni0 1\no0 2\n") in ([1], [-1]), "values"
 
 
+def play_commands():
+    """By hand: 2 is 1, 2 is not 1, and where 1 is false nothing serves. Each by the library, where it is named, and by the program."""
+    same, differ = b"p cnf 2 2\na 1 0\ne 2 0\n1 -2 0\n-1 2 0\n", b"p cnf 2 2\na 1 0\ne 2 0\n1 2 0\n-1 -2 0\n"
+    false = b"p cnf 2 2\na 1 0\ne 2 0\n1 2 0\n-2 0\n"
+    trace = b"p qrp 2 2\na 1 0\ne 2 0\n1 1 2 0 0\n2 1 0 1 0\n3 -1 -2 0 0\n4 -1 0 3 0\n5 0 2 4 0\nr SAT\n"
+    equal, inverse = b"aag 1 1 0 1 0\n2\n2\ni0 1\no0 2\n", b"aag 1 1 0 1 0\n2\n3\ni0 1\no0 2\n"
+    for call in (lambda f, *a, **o: f(*a, **o), by_program):
+        answer, cert = call(celdrinn.extract, same, trace)
+        assert answer is True and [cert({1: v})[2] for v in (False, True)] == [False, True], "extract"
+        assert call(celdrinn.extract, same, b"p qrp 2 2\na 1 0\ne 2 0\nr UNKNOWN\n") == (None, None), "unknown"
+        assert call(celdrinn.disprove, b"p cnf 1 2\n1 0\n-1 0\n", b"0\n") == 1, "disprove"
+        assert call(celdrinn.disprove, b"p cnf 1 2\n1 0\n-1 0\n", b"a\0", binary=True) == 1, "binary"
+        assert not has_model(call(celdrinn.miter, differ, inverse)) and has_model(call(celdrinn.miter, differ, equal)), "miter"
+        refuted = call(celdrinn.simplify, false)
+        herbrand = call(celdrinn.refute, refuted.source, refuted.out, refuted.log, b"aag 0 0 0 0 0\n")
+        assert refuted.truth is False and herbrand({})[1] is False, "refute"
+        assert not has_model(call(celdrinn.miter, false, herbrand, herbrand=True)), "miter of Herbrand functions"
+        assert call(celdrinn.validate, differ, inverse, budget=0) is None and call(celdrinn.validate, differ, inverse) is True, "a budget"
+        assert len(celdrinn.read(call(celdrinn.generate, 3, 25))[0]) == 25, "gen"
+        try:
+            call(celdrinn.disprove, differ, b"")
+        except celdrinn.LogError as error:
+            assert (error.status, error.line, error.cause) == (1, None, 11), error
+        else:
+            raise AssertionError("a proof without an end")
+    assert celdrinn.generate(3, 25) == by_program(celdrinn.generate, 3, 25), "library and program"
+
+
 def play_texts():
     text = b"c a lamp\np cnf 2 2\na 1 0\ne 2 0\n1\n2 0 -1 -2 0\n"
     assert celdrinn.read(text) == ([[1, 2], [-1, -2]], [("a", [1]), ("e", [2])])
@@ -187,7 +220,7 @@ def play_threads():
 def main():
     count = int(sys.argv[1]) if len(sys.argv) > 1 else 150
     is_right = True
-    for name, play in ((f"{count} formulas in Python", lambda: play_formulas(count)), ("errors in Python", play_errors),
+    for name, play in ((f"{count} formulas in Python", lambda: play_formulas(count)), ("commands in Python", play_commands), ("errors in Python", play_errors),
                        ("texts in Python", play_texts), ("a limit in Python", play_limits), ("Ctrl-C in Python", play_interrupt),
                        ("threads in Python", play_threads)):
         try:

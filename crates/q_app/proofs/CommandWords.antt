@@ -1,5 +1,5 @@
 -- The words of the command line.
-use Rattle.std.proofs.Common.{◌≡◌, ◌≢◌, ◌≤◌, ◌<◌, ℕ, zero, suc, Bool, true, false, not, ◌&&◌, List, [], ◌∷◌, refl, sym, ap, ◌∙◌, subst, arith, length, get_or, drop, Option, Some, None, String, string_bytes, drop-cons, take, ◌-◌, length-drop}
+use Rattle.std.proofs.Common.{◌≡◌, ◌≢◌, ◌≤◌, ◌<◌, ℕ, zero, suc, Bool, true, false, not, ◌&&◌, List, [], ◌∷◌, refl, sym, ap, ◌∙◌, subst, arith, length, get_or, drop, Option, Some, None, codes, String, string_bytes, drop-cons, take, ◌-◌, length-drop}
 use Rattle.std.proofs.lemmas.List.{length-map}
 use Rattle.std.proofs.Math.Seq.{take-length}
 use Rattle.std.proofs.lemmas.Slice.Eq.{bytes_eq-Decides}
@@ -9,7 +9,7 @@ use Rattle.q_app.specs.declared.settings.Settings.{Settings}
 use Rattle.q_command.specs.Names.{ThreeNames, three}
 use Rattle.q_app.specs.Words.{with_word, with_words, scale_of, generate_to, generate_of, demo_by, demo_of}
 use Rattle.q_app.specs.Operands.{Differ, DifferFour, are_different, flag_in, fourth, is_fourth, just_three, texts, three_names, two_names}
-use Rattle.q_app.specs.Commands.{by_verb, request}
+use Rattle.q_app.specs.Commands.{by_verb, request, settings_behind, settings_in}
 
 pub none-stays : (ws : List (List ℕ)) → None ≡ with_words None ws
 none-stays [] = refl
@@ -198,3 +198,26 @@ differ-four n w h e = record {
   output_last = λ x. second_not (bytes_eq n.input w) (bytes_eq n.output w) (bytes_eq n.log w) ((bytes_eq-Decides n.output w).1 x) e;
   log_last = λ x. last_not (bytes_eq n.input w) (bytes_eq n.output w) (bytes_eq n.log w) ((bytes_eq-Decides n.log w).1 x) e;
 }
+
+-- the settings of `simplify`
+pub no_settings : (ws : List (List ℕ)) → length ws ≡ 0 → None ≡ settings_in ws
+unfolding settings_in
+no_settings [] h = refl
+no_settings (w ∷ ws) h = absurd (omega arith)
+
+pub other_verb : (v : List ℕ) (ws : List (List ℕ)) → bytes_eq v (codes "simplify") ≡ false → None ≡ settings_in (v ∷ ws)
+unfolding settings_in
+other_verb v ws e = rw e refl
+
+pub verb_simplify : (v : List ℕ) (ws : List (List ℕ)) → bytes_eq v (codes "simplify") ≡ true → settings_behind (three_names ws) ≡ settings_in (v ∷ ws)
+unfolding settings_in
+verb_simplify v ws e = rw e refl
+
+-- what a test of two words says by its negation
+pub unlike : (b r : Bool) → r ≡ not b → r ≡ true → b ≡ false
+unlike true r e f = cc
+unlike false r e f = refl
+
+pub alike : (b r : Bool) → r ≡ not b → r ≡ false → b ≡ true
+alike true r e f = refl
+alike false r e f = cc

@@ -12,6 +12,9 @@ use Rattle.q_run_extract.proofs.ExtractStatus as extract
 use Rattle.q_run_miter.proofs.MiterStatus as miter
 use Rattle.q_run_disprove.proofs.DisproveStatus as disprove
 use Rattle.q_run_disprove.proofs.SharedStatus as disproved_part
+use Rattle.q_run_disprove.proofs.CertifyStatus as certify
+use Rattle.q_run_apply.proofs.ApplyStatus as apply
+use Rattle.q_app.specs.Words.{applying, certifying}
 use Rattle.q_app.specs.Completeness.{EachCompletes}
 use Rattle.q_app.specs.Told.{told}
 use Rattle.q_app.specs.Words.{Command, checking, sharing, simplifying, rebuilding, generating, solving, annotating, annotating_part, refuting, validating, mitering, extracting, disproving, disproving_part}
@@ -34,6 +37,8 @@ laws (mitering n s) = miter.laws n s
 laws (extracting n) = extract.laws n
 laws (disproving n b) = disprove.laws n b
 laws (disproving_part n b p) = disproved_part.laws n b p
+laws (certifying n b) = certify.laws n b
+laws (applying n) = apply.laws n
 
 pub completes : EachCompletes
 completes c before given after r = law.completes (told c) (laws c) before given after r

@@ -16,3 +16,5 @@ pub mod SameMoves
 pub mod FaultFree
 pub mod DemoPasses
 pub mod RunPromise
+pub mod StoppedFiles
+pub mod StoppedRequests

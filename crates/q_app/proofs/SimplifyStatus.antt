@@ -33,25 +33,25 @@ ended_is ending.True s e = inr (inl e)
 ended_is ending.False s e = inr (inr (inl e))
 ended_is ending.Spent s e = inr (inr (inr e))
 
-ended-not_refused : (s : Status) → IsEnded s → s ≢ status.InputRefused
+pub ended-not_refused : (s : Status) → IsEnded s → s ≢ status.InputRefused
 ended-not_refused s (inl e) f = cc
 ended-not_refused s (inr (inl e)) f = cc
 ended-not_refused s (inr (inr (inl e))) f = cc
 ended-not_refused s (inr (inr (inr e))) f = cc
 
-ended-not_read : (s : Status) → IsEnded s → s ≢ status.ReadFault
+pub ended-not_read : (s : Status) → IsEnded s → s ≢ status.ReadFault
 ended-not_read s (inl e) f = cc
 ended-not_read s (inr (inl e)) f = cc
 ended-not_read s (inr (inr (inl e))) f = cc
 ended-not_read s (inr (inr (inr e))) f = cc
 
-ended-not_write : (s : Status) → IsEnded s → s ≢ status.WriteFault
+pub ended-not_write : (s : Status) → IsEnded s → s ≢ status.WriteFault
 ended-not_write s (inl e) f = cc
 ended-not_write s (inr (inl e)) f = cc
 ended-not_write s (inr (inr (inl e))) f = cc
 ended-not_write s (inr (inr (inr e))) f = cc
 
-ended-not_memory : (s : Status) → IsEnded s → s ≢ status.NoMemory
+pub ended-not_memory : (s : Status) → IsEnded s → s ≢ status.NoMemory
 ended-not_memory s (inl e) f = cc
 ended-not_memory s (inr (inl e)) f = cc
 ended-not_memory s (inr (inr (inl e))) f = cc

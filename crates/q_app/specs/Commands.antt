@@ -1,14 +1,15 @@
 -- What the words ask for.
-use Rattle.std.specs.Prelude.{◌≤◌, ℕ, cond, List, [], ◌∷◌, Some, None, codes}
+use Rattle.std.specs.Prelude.{◌≤◌, ℕ, Bool, false, cond, Option, List, [], ◌∷◌, Some, None, codes}
 use Rattle.std.specs.Str.{bytes_eq}
 use Rattle.q_logic.specs.declared.rule_bounds.Bounds.{Bounds}
-use Rattle.q_command.specs.Names.{three, three_of}
+use Rattle.q_command.specs.Names.{ThreeNames, three, three_of}
 use Rattle.q_app.specs.Rebuilds.{FiveNames, five}
-use Rattle.q_app.specs.Words.{Command, checking, sharing, simplifying, rebuilding, generating, solving, annotating, annotating_part, refuting, validating, mitering, extracting, Request, simplify_of, rebuild_of, generate_of, validate_of, refute_of, solve_of, miter_of, extract_of, demo, demo_of, nothing_set, options_of, disproving, disproving_part}
+use Rattle.q_app.specs.Words.{Command, checking, sharing, simplifying, rebuilding, generating, solving, annotating, annotating_part, refuting, validating, mitering, extracting, Request, simplify_of, rebuild_of, generate_of, validate_of, refute_of, solve_of, miter_of, extract_of, demo, demo_of, nothing_set, options_of, with_words, disproving, disproving_part}
+use Rattle.q_app.specs.Words.{applying, apply_of, certifying}
 use Rattle.q_app.specs.Operands.{Differ, DifferFour, fourth, just_three, three_names, two_names}
 use Rattle.q_app.specs.RebuildWords.{rebuild_names}
 use Rattle.q_app.specs.PartWords.{annotate_of, check_of}
-use Rattle.q_app.specs.DisproveWords.{disprove_of}
+use Rattle.q_app.specs.DisproveWords.{disproof_of}
 use Rattle.q_run_validate.specs.Validates.{files_of as validate_files_of}
 use Rattle.q_run_refute.specs.Refutes.{files_of as refute_files_of}
 use Rattle.q_run_annotate.specs.Annotates.{files_of as annotate_files_of}
@@ -16,8 +17,12 @@ use Rattle.q_run_solve.specs.Solves.{files_of as solve_files_of}
 use Rattle.q_run_miter.specs.Mitering.{files_of as miter_files_of}
 use Rattle.q_run_extract.specs.Extracts.{files_of as extract_files_of}
 use Rattle.q_run_disprove.specs.Disproofs.{files_of as disprove_files_of}
+use Rattle.q_run_disprove.specs.Certifying.{files_of as certify_files_of}
+use Rattle.q_run_apply.specs.Applications.{files_of as apply_files_of}
+use Rattle.q_app.specs.declared.settings.Settings.{Settings}
 use Rattle.q_app.specs.declared.rebuild_words.RebuildNames.{RebuildNames}
 use Rattle.q_app.specs.declared.words.Command.{Command as Parsed}
+use Rattle.q_app.specs.declared.words.Command.TheVariants.{Apply, Certify}
 use Rattle.q_app.specs.declared.words.Command.TheVariants.{Check, Share, Simplify, Rebuild, Generate, Solve, Annotate, AnnotateShare, Refute, Validate, Miter, Extract, Demo, Disprove, DisproveShare}
 
 -- by the verb and its operands; all else is no command
@@ -33,8 +38,9 @@ by_verb verb operands =
     (cond (bytes_eq verb (codes "solve")) (solve_of (fourth (three_names operands)))
     (cond (bytes_eq verb (codes "extract")) (extract_of (just_three (three_names operands)))
     (cond (bytes_eq verb (codes "miter")) (miter_of (three_names operands))
-    (cond (bytes_eq verb (codes "disprove")) (disprove_of (two_names operands))
-    (cond (bytes_eq verb (codes "demo")) (demo_of operands) None)))))))))))
+    (cond (bytes_eq verb (codes "disprove")) (disproof_of operands)
+    (cond (bytes_eq verb (codes "apply")) (apply_of (just_three (three_names operands)))
+    (cond (bytes_eq verb (codes "demo")) (demo_of operands) None))))))))))))
 
 unfoldable pub request : List (List ℕ) → Request
 request [] = None
@@ -59,6 +65,8 @@ commands_of (Extract n) = extracting (extract_files_of n) ∷ []
 commands_of (Miter n s) = mitering (miter_files_of n) s ∷ []
 commands_of (Disprove n b) = disproving (disprove_files_of n) b ∷ []
 commands_of (DisproveShare n b p) = disproving_part (disprove_files_of n) b p ∷ []
+commands_of (Certify n b) = certifying (certify_files_of n) b ∷ []
+commands_of (Apply n) = applying (apply_files_of n) ∷ []
 commands_of (Demo k n) = demo k (three_of n)
 
 -- such a command can be done: its numbers are within their limits, and its names differ
@@ -78,3 +86,28 @@ first_bounds (c ∷ cs) = first_bounds cs
 abbrev pub bounds_in : Request → Bounds
 bounds_in None = (options_of nothing_set).bounds
 bounds_in (Some cs) = first_bounds cs
+
+-- the settings of words that ask for `simplify`
+abbrev pub settings_behind : Option (ThreeNames × List (List ℕ)) → Option Settings
+settings_behind None = None
+settings_behind (Some (n, words)) = with_words (Some nothing_set) words
+
+unfoldable pub settings_in : List (List ℕ) → Option Settings
+settings_in [] = None
+settings_in (verb ∷ operands) = cond (bytes_eq verb (codes "simplify")) (settings_behind (three_names operands)) None
+
+-- behind how many seconds `simplify` is to stop, where words say so
+abbrev pub seconds_set : Option Settings → Option ℕ
+seconds_set None = None
+seconds_set (Some s) = s.seconds
+
+abbrev pub seconds_of : List (List ℕ) → Option ℕ
+seconds_of words = seconds_set (settings_in words)
+
+-- whether words ask `simplify` to leave extended universal reduction out
+abbrev pub plain_set : Option Settings → Bool
+plain_set None = false
+plain_set (Some s) = s.plain
+
+abbrev pub is_plain : List (List ℕ) → Bool
+is_plain words = plain_set (settings_in words)

@@ -18,3 +18,4 @@ pub mod Further
 pub mod FirstMoves
 pub mod Completeness
 pub mod Promises
+pub mod Stopping

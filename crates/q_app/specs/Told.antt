@@ -15,6 +15,9 @@ use Rattle.q_run_miter.specs.Mitering as miter
 use Rattle.q_app.specs.Words.{Command, checking, sharing, simplifying, rebuilding, generating, solving, annotating, annotating_part, refuting, validating, mitering, extracting, disproving, disproving_part}
 use Rattle.q_run_disprove.specs.Disproofs as disprove
 use Rattle.q_run_disprove.specs.SharedDisproofs as disproved_part
+use Rattle.q_run_disprove.specs.Certifying as certify
+use Rattle.q_run_apply.specs.Applications as apply
+use Rattle.q_app.specs.Words.{applying, certifying}
 
 abbrev pub told : Command → Told
 told (checking n) = check.told n
@@ -31,3 +34,5 @@ told (mitering n s) = miter.told n s
 told (extracting n) = extract.told n
 told (disproving n b) = disprove.told n b
 told (disproving_part n b p) = disproved_part.told_part n b p
+told (certifying n b) = certify.told n b
+told (applying n) = apply.told n

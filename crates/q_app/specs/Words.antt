@@ -1,6 +1,7 @@
 -- The words of the command line.
 use Rattle.std.specs.Prelude.{ℕ, Bool, true, false, ◌||◌, ◌==◌, ◌^◌, ◌-◌, min, nat_le, if◌then◌else◌, is_some, unwrap_or, List, [], ◌∷◌, Option, Some, None, codes}
 use Rattle.std.proofs.Common.{arith}
+use Rattle.std.specs.Str.{bytes_eq}
 use Rattle.q_logic.specs.declared.rule_bounds.Bounds.{Bounds}
 use Rattle.q_text.specs.Words.{digits}
 use Rattle.q_simplify.specs.declared.options.Options.{Options}
@@ -17,6 +18,8 @@ use Rattle.q_encode.specs.declared.side.Side.TheVariants as side
 use Rattle.q_run_miter.specs.Mitering.{MiterFiles}
 use Rattle.q_run_extract.specs.Extracts.{ExtractFiles}
 use Rattle.q_run_disprove.specs.Disproofs.{DisproveFiles}
+use Rattle.q_run_disprove.specs.Certifying.{CertifyFiles}
+use Rattle.q_run_apply.specs.Applications.{ApplyFiles}
 use Rattle.q_app.specs.declared.words.Scale.{Scale}
 use Rattle.q_app.specs.declared.settings.Setting.{Setting}
 use Rattle.q_app.specs.declared.settings.Setting.TheVariants as setting
@@ -38,6 +41,8 @@ pub data Command : Type 0 where
   extracting : ExtractFiles → Command
   disproving : DisproveFiles → Bool → Command
   disproving_part : DisproveFiles → Bool → Part → Command
+  certifying : CertifyFiles → Bool → Command
+  applying : ApplyFiles → Command
 
 -- what the words ask for: commands that are done one after the other; none where they are not understood
 abbrev pub Request : Type 0
@@ -60,21 +65,34 @@ behind [] word = Some word
 behind (a ∷ front) [] = None
 behind (a ∷ front) (b ∷ word) = if a == b then behind front word else None
 
+-- a number of seconds, which is at least 1
+abbrev pub from_one : Option ℕ → Option ℕ
+from_one None = None
+from_one (Some n) = if n == 0 then None else Some n
+
+abbrev pub seconds_in : List ℕ → Option ℕ
+seconds_in text = from_one (number_of (2 ^ 32 - 1) text)
+
 -- a setting with its number, if this is one
 abbrev pub set : (ℕ → Setting) → Option ℕ → Option Setting
 set name None = None
 set name (Some n) = Some (name n)
 
--- the setting of a word, by what stands behind each name
-abbrev pub setting_by : Option (List ℕ) → Option (List ℕ) → Option (List ℕ) → Option Setting
-setting_by (Some n) e b = set (λ k. setting.Grow k) (number_of 10000 n)
-setting_by None (Some n) b = set (λ k. setting.Expand k) (number_of 10000 n)
-setting_by None None (Some n) = set (λ k. setting.Budget k) (number_of (2 ^ 64 - 1) n)
-setting_by None None None = None
+-- the setting of a word, by what stands behind each name; or whether it is the flag
+abbrev pub flag_by : Bool → Option Setting
+flag_by true = Some setting.Plain
+flag_by false = None
+
+abbrev pub setting_by : Option (List ℕ) → Option (List ℕ) → Option (List ℕ) → Option (List ℕ) → Bool → Option Setting
+setting_by (Some n) e b t p = set (λ k. setting.Grow k) (number_of 10000 n)
+setting_by None (Some n) b t p = set (λ k. setting.Expand k) (number_of 10000 n)
+setting_by None None (Some n) t p = set (λ k. setting.Budget k) (number_of (2 ^ 64 - 1) n)
+setting_by None None None (Some n) p = set (λ k. setting.Seconds k) (seconds_in n)
+setting_by None None None None p = flag_by p
 
 abbrev pub setting_of : List ℕ → Option Setting
 setting_of word =
-    setting_by (behind (codes "--grow=") word) (behind (codes "--expand=") word) (behind (codes "--budget=") word)
+    setting_by (behind (codes "--grow=") word) (behind (codes "--expand=") word) (behind (codes "--budget=") word) (behind (codes "--time=") word) (bytes_eq word (codes "--plain"))
 
 -- one more setting, where it was not set before
 abbrev pub with_setting : Settings → Option Setting → Option Settings
@@ -82,6 +100,8 @@ with_setting s None = None
 with_setting s (Some (setting.Grow n)) = if is_some s.grow then None else Some (record s { grow = Some n })
 with_setting s (Some (setting.Expand n)) = if is_some s.expand then None else Some (record s { expand = Some n })
 with_setting s (Some (setting.Budget n)) = if is_some s.budget then None else Some (record s { budget = Some n })
+with_setting s (Some (setting.Seconds n)) = if is_some s.seconds then None else Some (record s { seconds = Some n })
+with_setting s (Some setting.Plain) = if s.plain then None else Some (record s { plain = true })
 
 abbrev pub with_word : Option Settings → List ℕ → Option Settings
 with_word None word = None
@@ -93,7 +113,7 @@ with_words s [] = s
 with_words s (word ∷ words) = with_words (with_word s word) words
 
 abbrev pub nothing_set : Settings
-nothing_set = record { grow = None; expand = None; budget = None }
+nothing_set = record { grow = None; expand = None; budget = None; seconds = None; plain = false }
 
 -- what is not set has its default; a number above 10,000, which no word sets, counts as 10,000
 abbrev pub bounds_of : Settings → Bounds
@@ -110,7 +130,7 @@ options_of s = record { bounds = bounds_of s; budget = s.budget }
 -- the budget, where nothing else is set
 abbrev pub only_budget : Option Settings → Option (Option ℕ)
 only_budget None = None
-only_budget (Some s) = if is_some s.grow || is_some s.expand then None else Some s.budget
+only_budget (Some s) = if (is_some s.grow || is_some s.expand) || is_some s.seconds || s.plain then None else Some s.budget
 
 -- the budget that words set, which set nothing else
 abbrev pub budget_in : List (List ℕ) → Option (Option ℕ)
@@ -206,3 +226,8 @@ abbrev pub miter_of : Option (ThreeNames × List (List ℕ)) → Request
 miter_of None = None
 miter_of (Some (n, words)) =
     miter_with (record { input = n.input; cert = n.output; output = n.log }) (flag_in (codes "--herbrand") words)
+
+-- `apply IN LOG OUT`
+abbrev pub apply_of : Option ThreeNames → Request
+apply_of None = None
+apply_of (Some n) = alone (applying (record { input = n.input; log = n.output; output = n.log }))

@@ -1,10 +1,12 @@
 // The options of `disprove`, behind its names.
 ghost use Rattle.std.specs.Prelude.{◌≡◌};
-ghost use Rattle.q_app.specs.DisproveWords.{options_of as spec_options_of, read_as as spec_read_as};
+ghost use Rattle.q_app.specs.DisproveWords.{are_names as spec_are_names, is_name as spec_is_name, options_of as spec_options_of, read_as as spec_read_as};
+ghost use Rattle.q_command.specs.Names.{three_of};
 ghost use Rattle.q_app.specs.Operands.{texts};
 
 use crate::part_words::part_of;
-use q_command::Part;
+use crate::settings::strip;
+use q_command::{Names, Part};
 
 /// How a proof is read: what can be either as a binary proof, and a part of it or all.
 #[derive(Clone, Copy)]
@@ -37,4 +39,21 @@ pub(crate) fn options_of(words: &[String]) -> Option<DisproveOptions>
         return read_as(true, part_of(&words[..1]));
     }
     read_as(false, part_of(words))
+}
+
+// Whether a word does not begin as an option does.
+fn is_name(word: &str) -> bool
+    ensures { result ≡ spec_is_name word.now }
+{
+    match strip(word, b"--") {
+        Some(_) => false,
+        None => true,
+    }
+}
+
+/// Whether none of the names begins as an option does.
+pub(crate) fn are_names(names: Names) -> bool
+    ensures { result ≡ spec_are_names (three_of names.entry) }
+{
+    is_name(names.input) && is_name(names.output) && is_name(names.log)
 }

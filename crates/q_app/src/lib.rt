@@ -22,7 +22,8 @@ pub use laws::{
 };
 pub use q_command::{Outcome, Role, Status};
 pub use q_gen::generate;
+pub use q_simplify::{Alarm, Never};
 pub use rebuilt::Rebuilt;
 pub use simplified::Simplified;
-pub use top::run;
-pub use words::bounds_of;
+pub use top::{run, run_whole};
+pub use words::{bounds_of, is_plain, seconds_of};

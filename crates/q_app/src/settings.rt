@@ -1,17 +1,20 @@
 // The options of `simplify`.
 ghost use Rattle.std.specs.Prelude.{◌≡◌, ◌≢◌, ◌≤◌, option_map, Some};
-ghost use Rattle.q_app.specs.Words.{behind, bounds_of, nothing_set, number_of, only_budget, options_of, setting_of, with_setting, with_word, with_words};
+ghost use Rattle.q_app.specs.Words.{behind, bounds_of, nothing_set, number_of, only_budget, options_of, seconds_in, setting_of, with_setting, with_word, with_words};
 ghost use Rattle.q_app.specs.Operands.{texts};
 
 use q_logic::Bounds;
 use q_simplify::Options;
 
-/// An option with its number.
+/// An option, with its number where it has one.
 #[derive(Clone, Copy, Debug, PartialEq, Eq)]
 pub(crate) enum Setting {
     Grow(u32),
     Expand(u32),
     Budget(u64),
+    /// So many seconds, of `--time=`.
+    Seconds(u64),
+    Plain,
 }
 
 /// The options so far.
@@ -20,10 +23,15 @@ pub(crate) struct Settings {
     grow: Option<u32>,
     expand: Option<u32>,
     budget: Option<u64>,
+    pub seconds: Option<u64>,
+    pub plain: bool,
 }
 
 // The greatest bound that can be set.
 const MOST: u64 = 10_000;
+
+// The greatest number of seconds.
+const MOST_SECONDS: u64 = 4_294_967_295;
 
 /// The number of a text of digits, where it is not too large.
 pub(crate) fn number(text: &[u8], most: u64) -> Option<u64>
@@ -56,6 +64,19 @@ pub(crate) fn strip<'a>(word: &'a str, front: &[u8]) -> Option<&'a [u8]>
     }
 }
 
+// A number of seconds, which is at least 1.
+fn seconds(text: &[u8]) -> Option<u64>
+    ensures { result ≡ seconds_in text.now }
+{
+    let Some(seconds) = number(text, MOST_SECONDS) else {
+        return None;
+    };
+    if seconds == 0 {
+        return None;
+    }
+    Some(seconds)
+}
+
 fn parse_setting(word: &str) -> Option<Setting>
     ensures { result ≡ setting_of word.now }
 {
@@ -76,6 +97,15 @@ fn parse_setting(word: &str) -> Option<Setting>
             Some(budget) => Some(Setting::Budget(budget)),
             None => None,
         };
+    }
+    if let Some(text) = strip(word, b"--time=") {
+        return match seconds(text) {
+            Some(seconds) => Some(Setting::Seconds(seconds)),
+            None => None,
+        };
+    }
+    if word == "--plain" {
+        return Some(Setting::Plain);
     }
     None
 }
@@ -98,6 +128,14 @@ impl Settings {
                 budget: Some(budget),
                 ..self
             }),
+            Setting::Seconds(seconds) if self.seconds.is_none() => Some(Settings {
+                seconds: Some(seconds),
+                ..self
+            }),
+            Setting::Plain if !self.plain => Some(Settings {
+                plain: true,
+                ..self
+            }),
             _ => None,
         }
     }
@@ -118,6 +156,8 @@ impl Settings {
             grow: None,
             expand: None,
             budget: None,
+            seconds: None,
+            plain: false,
         }
     }
 
@@ -159,7 +199,8 @@ impl Settings {
     pub fn only_budget(self) -> Option<Option<u64>>
         ensures { result ≡ only_budget (Some self) }
     {
-        if self.grow.is_some() || self.expand.is_some() {
+        let is_bounded = self.grow.is_some() || self.expand.is_some();
+        if is_bounded || self.seconds.is_some() || self.plain {
             return None;
         }
         Some(self.budget)

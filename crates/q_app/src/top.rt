@@ -1,13 +1,15 @@
-// The top call.
-ghost use Rattle.std.specs.Prelude.{◌≡◌, ◌≢◌, ◌≤◌, ◌⊎◌, None};
+// The top call, and the same without an alarm.
+ghost use Rattle.std.specs.Prelude.{◌≡◌, ◌≢◌, ◌≤◌, ◌⊎◌, None, Some};
 ghost use Rattle.q_command.specs.Devices.{AreLater, devices};
 ghost use Rattle.q_command.specs.Names.{three_of};
 ghost use Rattle.q_command.specs.Told.{Runs};
-ghost use Rattle.q_app.specs.Commands.{IsFit, commands_of, five_of, request};
+ghost use Rattle.q_app.specs.Commands.{IsFit, commands_of, five_of, is_plain as spec_is_plain, request, seconds_of as spec_seconds_of};
 ghost use Rattle.q_app.specs.Operands.{Differ, texts};
 ghost use Rattle.q_app.specs.Promises.{AnswerComes, DemoPasses, SimplifyEnds};
 ghost use Rattle.q_app.specs.Says.{Does, InTurn};
+ghost use Rattle.q_app.specs.Stopping.{AlarmKeeps, DoesUntil, IsSetAndHeard, KeepsUntil, UnderSome};
 ghost use Rattle.q_app.specs.Told.{told};
+ghost use Rattle.q_simplify.specs.AlarmViews.{view_alarm};
 ghost use Rattle.q_app.specs.Words.{checking, sharing, demo, generating, rebuilding, simplifying};
 
 use crate::gen_file::generate_file;
@@ -15,27 +17,38 @@ use crate::rebuild::rebuild_files;
 use crate::rebuild_words::RebuildNames;
 use crate::settings::Settings;
 use crate::simplify::simplify_file;
-use crate::words::{Command, Scale, parse};
+use crate::words::{Command, Scale, is_plain, parse, seconds_of};
 use q_command::{Names, Part, Status, check, check_part, put};
 use q_gen::generated_is_read;
 use q_io::{Files, Sink};
 use q_log::texts_are_read;
 use q_run_annotate::{run as run_annotate, run_part as run_annotate_part};
-use q_run_disprove::{run as run_disprove, run_part as run_disprove_part};
+use q_run_apply::run as run_apply;
+use q_run_disprove::{
+    run as run_disprove, run_certified as run_disprove_certified, run_part as run_disprove_part,
+};
 use q_run_extract::run as run_extract;
 use q_run_miter::run as run_miter;
 use q_run_refute::run as run_refute;
 use q_run_solve::run as run_solve;
 use q_run_validate::run as run_validate;
 use q_sched::Guide;
-use q_simplify::Options;
+use q_simplify::{Alarm, Never, Options};
 use std::alloc::Global;
+
+// When `simplify` is to stop: behind so many seconds, and in a plain run where no guide is left.
+#[derive(Clone, Copy)]
+struct Watch {
+    seconds: Option<u64>,
+    plain: bool,
+}
 
 // What `simplify` is asked for.
 #[derive(Clone, Copy)]
 struct Simplification<'a> {
     names: Names<'a>,
     options: Options,
+    watch: Watch,
 }
 
 // What `demo` is asked for.
@@ -71,21 +84,26 @@ fn run_share<F: Files, S: Sink>(
     check_part(alloc, files, names, part).say(out)
 }
 
-fn run_simplify<F: Files, S: Sink>(
+fn run_simplify<F: Files, S: Sink, A: Alarm>(
     alloc: Global,
     files: &mut F,
     out: &mut S,
     asked: Simplification,
     guides: Vec<Box<dyn Guide>>,
+    alarm: &mut A,
 ) -> Status
     requires names { Differ (three_of asked.names) }
-    ensures runs { Runs (told (simplifying (three_of asked.entry.names) asked.entry.options))
+    ensures runs { UnderSome (λ p. Runs (told (simplifying (three_of asked.entry.names) p))
         (devices F.Files S.Sink files.old out.old) result
-        (devices F.Files S.Sink files.new out.new) }
+        (devices F.Files S.Sink files.new out.new)) (view_alarm A.Alarm alarm.old)
+        (view_alarm A.Alarm alarm.new) asked.entry.options }
+    ensures alarm { IsSetAndHeard asked.entry.watch.seconds asked.entry.watch.plain result
+        (view_alarm A.Alarm alarm.old) (view_alarm A.Alarm alarm.new) }
     ensures later { AreLater
         (devices F.Files S.Sink files.old out.old) (devices F.Files S.Sink files.new out.new) }
 {
-    simplify_file(alloc, files, asked.names, &asked.options, guides).say(out)
+    alarm.set(asked.watch.seconds, asked.watch.plain);
+    simplify_file(alloc, files, asked.names, &asked.options, guides, alarm).say(out)
 }
 
 fn run_rebuild<F: Files, S: Sink>(
@@ -138,32 +156,49 @@ fn run_demo<F: Files, S: Sink>(
         return made;
     }
     let options = Settings::none().options();
-    let simplify = Simplification { names, options };
-    let simplified = run_simplify(alloc, files, out, simplify, guides);
+    let watch = Watch {
+        seconds: None,
+        plain: false,
+    };
+    let simplify = Simplification {
+        names,
+        options,
+        watch,
+    };
+    let simplified = run_simplify(alloc, files, out, simplify, guides, &mut Never::new());
     if !simplified.passes() {
         return simplified;
     }
     run_check(alloc, files, out, names)
 }
 
-fn run_command<F: Files, S: Sink>(
+// The alarm is for `simplify` alone.
+fn run_command<F: Files, S: Sink, A: Alarm>(
     alloc: Global,
     files: &mut F,
     out: &mut S,
     command: Command,
+    watch: Watch,
     guides: Vec<Box<dyn Guide>>,
+    alarm: &mut A,
 ) -> Status
     requires { IsFit command }
-    ensures { InTurn (commands_of command.entry)
-        (devices F.Files S.Sink files.old out.old) result
+    ensures does { DoesUntil (view_alarm A.Alarm alarm.old) (view_alarm A.Alarm alarm.new)
+        (Some (commands_of command.entry)) (devices F.Files S.Sink files.old out.old) result
         (devices F.Files S.Sink files.new out.new) }
+    ensures alarm { AlarmKeeps (Some (commands_of command.entry)) watch.seconds watch.plain result
+        (view_alarm A.Alarm alarm.old) (view_alarm A.Alarm alarm.new) }
 {
     match command {
         Command::Check { names } => run_check(alloc, files, out, names),
         Command::Share { names, part } => run_share(alloc, files, out, names, part),
         Command::Simplify { names, options } => {
-            let asked = Simplification { names, options };
-            run_simplify(alloc, files, out, asked, guides)
+            let asked = Simplification {
+                names,
+                options,
+                watch,
+            };
+            run_simplify(alloc, files, out, asked, guides, alarm)
         }
         Command::Rebuild { names } => run_rebuild(alloc, files, out, names),
         Command::Generate { scale, output } => run_generate(alloc, files, out, scale, output),
@@ -182,6 +217,10 @@ fn run_command<F: Files, S: Sink>(
             binary,
             part,
         } => run_disprove_part(alloc, files, out, names, binary, part),
+        Command::Certify { names, binary } => {
+            run_disprove_certified(alloc, files, out, names, binary)
+        }
+        Command::Apply { names } => run_apply(alloc, files, out, names),
         Command::Demo { scale, names } => {
             run_demo(alloc, files, out, Demonstration { scale, names }, guides)
         }
@@ -191,8 +230,47 @@ fn run_command<F: Files, S: Sink>(
 /// Does what the words ask, one command after the other, over these files, with one line for each command put into the
 /// sink. Main hands in the disk, standard output and the words after the
 /// program's name. The guides serve `simplify`: they are asked which target is tried next, and what is proved holds for
-/// every list of them.
-pub fn run<F: Files, S: Sink>(
+/// every list of them. The alarm serves the command `simplify` too: it is set as the words say, and asked before each turn. Where it
+/// rings, the run stops there, and is one under the budget that is spent there.
+pub fn run<F: Files, S: Sink, A: Alarm>(
+    alloc: Global,
+    words: &[String],
+    files: &mut F,
+    out: &mut S,
+    guides: Vec<Box<dyn Guide>>,
+    alarm: &mut A,
+) -> Status
+    // `Usage` comes exactly where the words ask for nothing, but for a sink that fails.
+    ensures usage { result ≡ Status.Usage → request (texts words.now) ≡ None }
+    ensures no_command { request (texts words.now) ≡ None
+        → (result ≡ Status.Usage) ⊎ (result ≡ Status.WriteFault) ⊎ (result ≡ Status.NoMemory) }
+
+    // There is a budget of `simplify`, the given one unless the alarm rang, under which all is as without an alarm: when each status
+    // comes, what the files hold then, which faults are answered and which lines are put; that `simplify` ends, memory and faults
+    // aside; that each command answers, and `demo` passes, where no fault comes, or memory is wanting.
+    ensures keeps { KeepsUntil (view_alarm A.Alarm alarm.old) (view_alarm A.Alarm alarm.new)
+        (request (texts words.now)) (devices F.Files S.Sink files.old out.old) result
+        (devices F.Files S.Sink files.new out.new) }
+
+    // No command but `simplify` touches the alarm, and `simplify` sets it as the words say, asks it, and heeds it.
+    ensures alarm { AlarmKeeps (request (texts words.now)) (spec_seconds_of (texts words.now))
+        (spec_is_plain (texts words.now)) result (view_alarm A.Alarm alarm.old)
+        (view_alarm A.Alarm alarm.new) }
+{
+    texts_are_read();
+    generated_is_read();
+    let watch = Watch {
+        seconds: seconds_of(words),
+        plain: is_plain(words),
+    };
+    match parse(words) {
+        Some(command) => run_command(alloc, files, out, command, watch, guides, alarm),
+        None => put(out, Status::Usage, b"usage\n"),
+    }
+}
+
+/// The same with no alarm, so `simplify` ends by itself: seconds and `--plain` mean nothing then.
+pub fn run_whole<F: Files, S: Sink>(
     alloc: Global,
     words: &[String],
     files: &mut F,
@@ -221,10 +299,5 @@ pub fn run<F: Files, S: Sink>(
         (devices F.Files S.Sink files.old out.old) result
         (devices F.Files S.Sink files.new out.new) }
 {
-    texts_are_read();
-    generated_is_read();
-    match parse(words) {
-        Some(command) => run_command(alloc, files, out, command, guides),
-        None => put(out, Status::Usage, b"usage\n"),
-    }
+    run(alloc, words, files, out, guides, &mut Never::new())
 }

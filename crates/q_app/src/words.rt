@@ -2,13 +2,14 @@
 ghost use Rattle.std.specs.Prelude.{◌≡◌, ◌≢◌, ◌≤◌, option_map, IfSome, Some};
 ghost use Rattle.q_app.specs.RebuildWords.{rebuild_names};
 ghost use Rattle.q_app.specs.PartWords.{annotate_of, check_of};
-ghost use Rattle.q_app.specs.DisproveWords.{disprove_of, disprove_shared};
+ghost use Rattle.q_app.specs.DisproveWords.{certify_of, disproof_of, disprove_of, disprove_shared};
+ghost use Rattle.q_app.specs.Words.{apply_of};
 ghost use Rattle.q_app.specs.Words.{demo_by, demo_of, extract_of, generate_of, miter_of, refute_of, scale_of as spec_scale_of, side_of as spec_side_of, simplify_of, solve_of, validate_of};
 ghost use Rattle.q_run_disprove.specs.Disproofs.{files_of as disprove_files_of};
 ghost use Rattle.q_app.specs.Operands.{fourth, just_three, three_names as spec_three_names, two_names as spec_two_names, texts};
-ghost use Rattle.q_app.specs.Commands.{IsFit, bounds_in, by_verb as spec_by_verb, commands_of, request};
+ghost use Rattle.q_app.specs.Commands.{IsFit, bounds_in, by_verb as spec_by_verb, commands_of, is_plain as spec_is_plain, request, seconds_of as spec_seconds_of, settings_in};
 
-use crate::disprove_words::options_of;
+use crate::disprove_words::{are_names, options_of};
 use crate::operands::{budget_of, flag_of, four_names, only_names, three_names, two_names};
 use crate::part_words::part_of;
 use crate::rebuild_words::{RebuildNames, parse_rebuild};
@@ -16,7 +17,8 @@ use crate::settings::{Settings, number};
 use q_command::{Names, Part};
 use q_logic::Bounds;
 use q_run_annotate::AnnotateNames;
-use q_run_disprove::DisproveNames;
+use q_run_apply::ApplyNames;
+use q_run_disprove::{CertifyNames, DisproveNames};
 use q_run_extract::ExtractNames;
 use q_run_miter::{MiterNames, Side};
 use q_run_refute::RefuteNames;
@@ -86,6 +88,13 @@ pub(crate) enum Command<'a> {
         binary: bool,
         part: Part,
     },
+    Certify {
+        names: CertifyNames<'a>,
+        binary: bool,
+    },
+    Apply {
+        names: ApplyNames<'a>,
+    },
     Demo {
         scale: Scale,
         names: Names<'a>,
@@ -143,6 +152,9 @@ fn by_verb<'a>(verb: &str, operands: &'a [String]) -> Option<Command<'a>>
     }
     if verb == "disprove" {
         return parse_disprove(operands);
+    }
+    if verb == "apply" {
+        return parse_apply(operands);
     }
     if verb == "demo" {
         return parse_demo(operands);
@@ -311,6 +323,57 @@ fn parse_miter(operands: &[String]) -> Option<Command>
 }
 
 fn parse_disprove(operands: &[String]) -> Option<Command>
+    ensures request { option_map (λ o. commands_of o) result ≡ disproof_of (texts operands.now) }
+    ensures fit { IfSome result IsFit }
+{
+    match parse_two(operands) {
+        Some(command) => Some(command),
+        None => parse_certify(operands),
+    }
+}
+
+// `disprove IN PROOF CERT`.
+fn parse_certify(operands: &[String]) -> Option<Command>
+    ensures request { option_map (λ o. commands_of o) result
+        ≡ certify_of (spec_three_names (texts operands.now)) }
+    ensures fit { IfSome result IsFit }
+{
+    let Some(begun) = three_names(operands) else {
+        return None;
+    };
+    if !are_names(begun.names) {
+        return None;
+    }
+    let names = CertifyNames {
+        input: begun.names.input,
+        proof: begun.names.output,
+        cert: begun.names.log,
+    };
+    match flag_of(begun.rest, "--binary") {
+        Some(binary) => Some(Command::Certify { names, binary }),
+        None => None,
+    }
+}
+
+fn parse_apply(operands: &[String]) -> Option<Command>
+    ensures request { option_map (λ o. commands_of o) result
+        ≡ apply_of (just_three (spec_three_names (texts operands.now))) }
+    ensures fit { IfSome result IsFit }
+{
+    match only_names(operands) {
+        Some(names) => Some(Command::Apply {
+            names: ApplyNames {
+                input: names.input,
+                log: names.output,
+                output: names.log,
+            },
+        }),
+        None => None,
+    }
+}
+
+// `disprove IN PROOF`, as a whole or a part.
+fn parse_two(operands: &[String]) -> Option<Command>
     ensures request { option_map (λ o. commands_of o) result
         ≡ disprove_of (spec_two_names (texts operands.now)) }
     ensures fit { IfSome result IsFit }
@@ -410,5 +473,41 @@ pub fn bounds_of(words: &[String]) -> Bounds
     match parse(words) {
         Some(Command::Simplify { options, .. }) => options.bounds,
         _ => Settings::none().options().bounds,
+    }
+}
+
+// The settings of the simplification that the words ask for, if they ask for one.
+fn settings_of(words: &[String]) -> Option<Settings>
+    ensures { result ≡ settings_in (texts words.now) }
+{
+    if words.len() == 0 {
+        return None;
+    }
+    if words[0].as_str() != "simplify" {
+        return None;
+    }
+    match three_names(&words[1..]) {
+        Some(begun) => Settings::of(begun.rest),
+        None => None,
+    }
+}
+
+/// After how many seconds the simplification that the words ask for is to stop, if they say so.
+pub fn seconds_of(words: &[String]) -> Option<u64>
+    ensures { result ≡ spec_seconds_of (texts words.now) }
+{
+    match settings_of(words) {
+        Some(settings) => settings.seconds,
+        None => None,
+    }
+}
+
+/// Whether the words ask for a simplification that leaves extended universal reduction out.
+pub fn is_plain(words: &[String]) -> bool
+    ensures { result ≡ spec_is_plain (texts words.now) }
+{
+    match settings_of(words) {
+        Some(settings) => settings.plain,
+        None => false,
     }
 }

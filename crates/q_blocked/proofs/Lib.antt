@@ -11,6 +11,7 @@ pub mod FilteredLiterals
 pub mod HiddenLiterals
 pub mod CoveredLiterals
 pub mod PartedCouples
+pub mod ApartNotes
 pub mod ReachedSets
 pub mod SetGrowth
 pub mod AskedPlaces

@@ -5,5 +5,6 @@ pub mod Progress
 pub mod Plans
 pub mod Growths
 pub mod Searches
+pub mod Notes
 pub mod Learned
 pub mod Following

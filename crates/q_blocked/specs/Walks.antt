@@ -3,6 +3,8 @@ use Rattle.std.specs.Prelude.{◌≡◌, ◌≢◌, ◌↔◌, ◌⊎◌, ℕ, B
 use Rattle.q_logic.specs.Prelude.{Literal, negation, Clause, Matrix, Prefix, IsIn, keeps, Slots, slot}
 use Rattle.q_logic.specs.Blocking.{Clashes, AllClash}
 use Rattle.q_logic.specs.Covering.{InEach}
+use Rattle.q_blocked.specs.declared.pairs.Shared.{Shared}
+use Rattle.q_blocked.specs.declared.pairs.Shared.TheVariants.{Fresh, OfSet, Nothing}
 
 -- the clause of the id d, which is not c
 abbrev pub IsBeside : Slots → ℕ → ℕ → Clause → Type 0
@@ -57,6 +59,20 @@ IsLooked P X l S K true = IsOpen P X l S × ((k : Literal) → IsIn k K ↔ (InE
 -- the clause of the id d, if it is not c, clashes with S on l
 pub record ClashesAt (P : Prefix) (N : Slots) (c : ℕ) (l : Literal) (S : Clause) (d : ℕ) : Type 0 where
   pub each : (D : Clause) → IsBeside N c d D → Clashes P l S D
+
+-- C and D have nothing in common that the outer part of C on m holds
+abbrev pub IsParted : Prefix → Literal → Clause → Clause → Type 0
+IsParted P m C D = (k : Literal) → IsIn k C → keeps P m k ≡ true → IsIn k D → ⊥
+
+-- or nothing beyond S
+abbrev pub IsPartedBeyond : Prefix → Literal → Clause → Clause → Clause → Type 0
+IsPartedBeyond P m S C D = (k : Literal) → IsIn k C → keeps P m k ≡ true → IsIn k D → (IsIn k S → ⊥) → ⊥
+
+-- what is told of that
+abbrev pub HasShared : Prefix → Literal → Clause → Clause → Clause → Shared → Type 0
+HasShared P m S C D Fresh = Unit {0}
+HasShared P m S C D OfSet = IsPartedBeyond P m S C D
+HasShared P m S C D Nothing = IsParted P m C D
 
 -- m is in D, and no other literal is but a
 abbrev pub IsCouple : Literal → Literal → Clause → Type 0

@@ -19,6 +19,7 @@ impl Search {
     {
         self.units.forget();
         self.watches.forget();
+        self.apart.forget();
     }
 
     /// Whether a clause is covered. What is learned of the kernel serves for the next question on the same one. Of the steps those stay

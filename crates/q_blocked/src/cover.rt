@@ -22,8 +22,8 @@
 //!
 //! Most looks find nothing, and for the reason of the last look, at this clause or at one before. So it is noted and
 //! asked first: two clauses with `not l` that have nothing in common beyond the set (`pairs.rt`), the places in a long
-//! clause of two literals that were not in the set (`nothing_hidden.rt`). What is noted is tested each time, so it may be out of
-//! date.
+//! clause of two literals that were not in the set (`nothing_hidden.rt`). This is tested each time, so it may be out of date. Where the
+//! two clauses have nothing in common at all, that is known for the kernel, and not tested again (`apart.rt`).
 //!
 //! **The steps** (`plan.rt`, `covering.rt`). A stage is a larger clause that comes, after which the smaller one goes.
 //! Hidden literals need none of their own: the smaller clause is implied by the larger one through all of them, and a
@@ -46,8 +46,10 @@ ghost use Rattle.q_blocked.specs.Growths.{Growing, CoveredBy, HasCovered, HasLoo
 ghost use Rattle.q_watch.specs.Watches.{AreRightFor};
 ghost use Rattle.q_blocked.specs.Following.{IsFollowed, HasTurnedFollowed};
 ghost use Rattle.q_blocked.specs.Units.{AreRight};
+ghost use Rattle.q_blocked.specs.Notes.{AreApart};
 ghost use Rattle.q_blocked.specs.Plans.{IsPlanFor};
 
+use crate::apart::Apart;
 use crate::covered::{covered_at, is_bare};
 use crate::growth::{Growth, add_places};
 use crate::hidden::use_units;
@@ -129,19 +131,22 @@ fn cover_by(
 pub(crate) fn cover_at(
     kernel: &Kernel,
     growth: &mut Growth,
+    apart: &mut Apart,
     c: ClauseId,
     place: usize,
 ) -> Result<Progress, NoMemory>
     requires growing { Growing kernel.now c growth.old }
     requires there { place < length growth.old.set }
-    ensures { IfOk result (HasLooked kernel.now c (λ l.
+    requires apart { AreApart kernel.now apart.old }
+    ensures looked { IfOk result (HasLooked kernel.now c (λ l.
         slice_get growth.old.set place ≡ Some l) growth.old growth.new) }
+    ensures apart { AreApart kernel.now apart.new }
 {
     let l = growth.set.at(place);
     if !is_existential(kernel, l.var()) {
         return Ok(Progress::Unchanged);
     }
-    if covers_nothing(kernel, &growth.set, &growth.pairs, c, l) {
+    if covers_nothing(kernel, &growth.set, &growth.pairs, apart, c, l) {
         return Ok(Progress::Unchanged);
     }
     if !covered_at(
@@ -166,10 +171,17 @@ pub(crate) fn cover_at(
 
 // Grows by the covered literals on each literal of the set, those that come included. Those that came hidden are passed by:
 // nothing is covered on them.
-fn pass(kernel: &Kernel, growth: &mut Growth, c: ClauseId) -> Result<Progress, NoMemory>
+fn pass(
+    kernel: &Kernel,
+    growth: &mut Growth,
+    apart: &mut Apart,
+    c: ClauseId,
+) -> Result<Progress, NoMemory>
     requires growing { Growing kernel.now c growth.old }
-    ensures { IfOk result (HasLooked kernel.now c (λ l.
+    requires apart { AreApart kernel.now apart.old }
+    ensures looked { IfOk result (HasLooked kernel.now c (λ l.
         IsIn l growth.old.set) growth.old growth.new) }
+    ensures apart { AreApart kernel.now apart.new }
 {
     let mut grew = false;
     for at in 0..usize::MAX {
@@ -180,7 +192,7 @@ fn pass(kernel: &Kernel, growth: &mut Growth, c: ClauseId) -> Result<Progress, N
             return Ok(Progress::Unchanged);
         }
         let place = growth.asked[at];
-        let progress = cover_at(kernel, growth, c, place)?;
+        let progress = cover_at(kernel, growth, apart, c, place)?;
         if progress.is_ended() {
             return Ok(Progress::Ended);
         }
@@ -196,14 +208,16 @@ fn round(kernel: &Kernel, search: &mut Search, c: ClauseId) -> Result<Progress, 
     requires followed { IsFollowed kernel.now search.old.watches c search.old.growth }
     requires units { AreRight (slots kernel.now) search.old.units }
     requires watches { AreRightFor kernel.now search.old.watches }
+    requires apart { AreApart kernel.now search.old.apart }
     ensures turned { IfOk result (HasTurnedFollowed kernel.now c search.new.watches search.new.growth) }
     ensures units { AreRight (slots kernel.now) search.new.units }
     ensures watches { AreRightFor kernel.now search.new.watches }
+    ensures apart { AreApart kernel.now search.new.apart }
 {
     if close(kernel, &mut search.growth, &mut search.watches, c)? {
         return Ok(Progress::Ended);
     }
-    let progress = pass(kernel, &mut search.growth, c)?;
+    let progress = pass(kernel, &mut search.growth, &mut search.apart, c)?;
     if progress.is_ended() {
         return Ok(Progress::Ended);
     }
@@ -221,9 +235,11 @@ fn covers(kernel: &Kernel, search: &mut Search, c: ClauseId) -> Result<bool, NoM
     requires followed { IsFollowed kernel.now search.old.watches c search.old.growth }
     requires units { AreRight (slots kernel.now) search.old.units }
     requires watches { AreRightFor kernel.now search.old.watches }
+    requires apart { AreApart kernel.now search.old.apart }
     ensures decided { IfOk result (HasDecided kernel.now c search.new.growth) }
     ensures units { AreRight (slots kernel.now) search.new.units }
     ensures watches { AreRightFor kernel.now search.new.watches }
+    ensures apart { AreApart kernel.now search.new.apart }
 {
     for _round in 0..usize::MAX {
         let progress = round(kernel, search, c)?;
@@ -242,12 +258,14 @@ fn covers(kernel: &Kernel, search: &mut Search, c: ClauseId) -> Result<bool, NoM
 pub fn fits_cover(kernel: &Kernel, search: &mut Search, c: ClauseId) -> Result<bool, NoMemory>
     requires units { AreRight (slots kernel.now) search.old.units }
     requires watches { AreRightFor kernel.now search.old.watches }
+    requires apart { AreApart kernel.now search.old.apart }
     ensures fits { IfOk result (λ yes.
         (B : Bounds) → IsTrue yes ↔ Fits B kernel.now.prefix (slots kernel.now) (cover c)) }
     ensures plan { IfOk result (λ yes.
         IsTrue yes → IsPlanFor kernel.now.prefix (slots kernel.now) c search.new.growth.plan) }
     ensures units { AreRight (slots kernel.now) search.new.units }
     ensures watches { AreRightFor kernel.now search.new.watches }
+    ensures apart { AreApart kernel.now search.new.apart }
 {
     if !kernel.live(c) {
         return Ok(false);
@@ -265,9 +283,11 @@ fn decide(kernel: &Kernel, search: &mut Search, c: ClauseId) -> Result<bool, NoM
     requires live { (C : Clause) × (slot (slots kernel.now) c ≡ Some C) }
     requires units { AreRight (slots kernel.now) search.old.units }
     requires watches { AreRightFor kernel.now search.old.watches }
+    requires apart { AreApart kernel.now search.old.apart }
     ensures decided { IfOk result (HasDecided kernel.now c search.new.growth) }
     ensures units { AreRight (slots kernel.now) search.new.units }
     ensures watches { AreRightFor kernel.now search.new.watches }
+    ensures apart { AreApart kernel.now search.new.apart }
 {
     let clause = clause_of(kernel, c);
     search.growth.begin(clause)?;

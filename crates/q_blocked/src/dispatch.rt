@@ -38,6 +38,7 @@ pub fn fits(kernel: &Kernel, search: &mut Search, target: &Target) -> Result<boo
         Target::Cover { c } => {
             search.units.forget();
             search.watches.forget();
+            search.apart.forget();
             let yes = fits_cover(kernel, search, c)?;
             Ok(yes)
         }

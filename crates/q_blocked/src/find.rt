@@ -5,6 +5,7 @@ ghost use Rattle.q_kernel.specs.Prelude.{slots};
 ghost use Rattle.q_blocked.specs.Targets.{target_of};
 ghost use Rattle.q_watch.specs.Watches.{AreRightFor};
 ghost use Rattle.q_blocked.specs.Units.{AreRight};
+ghost use Rattle.q_blocked.specs.Notes.{AreApart};
 ghost use Rattle.q_rule.specs.Searching.{IsFound, IsAt};
 ghost use Rattle.q_blocked.specs.Searches.{IsPivotOf, IsOn};
 
@@ -27,6 +28,7 @@ pub fn find_from(
 {
     search.units.forget();
     search.watches.forget();
+    search.apart.forget();
     for c in kernel.ids_from(from) {
         let found = find_at(kernel, search, c)?;
         if found.is_some() {
@@ -41,9 +43,11 @@ fn find_at(kernel: &Kernel, search: &mut Search, c: ClauseId) -> Result<Option<T
     requires live { (C : Clause) × (slot (slots kernel.now) c ≡ Some C) }
     requires units { AreRight (slots kernel.now) search.old.units }
     requires watches { AreRightFor kernel.now search.old.watches }
+    requires apart { AreApart kernel.now search.old.apart }
     ensures found { IfOk result (IsFound target_of kernel.now (IsAt target_of c)) }
     ensures units { AreRight (slots kernel.now) search.new.units }
     ensures watches { AreRightFor kernel.now search.new.watches }
+    ensures apart { AreApart kernel.now search.new.apart }
 {
     let found = find_pivot(kernel, &mut search.growth.set, c)?;
     if found.is_some() {

@@ -1,6 +1,7 @@
 //! Blocked and covered clauses, and universal literals on which a clause is blocked.
 #![tactic(auto)]
 
+mod apart;
 mod asking;
 mod blocked;
 mod clashing;

@@ -1,10 +1,12 @@
 //! Pairs of clauses that show that nothing is covered on a literal.
 ghost use Rattle.std.specs.Prelude.{◌≡◌, true, Some};
-ghost use Rattle.q_logic.specs.Prelude.{Literal, IsBelow, negation, Clause, IsIn, is_bound, keeps, ArePairs, Within, slot, others};
+ghost use Rattle.q_logic.specs.Prelude.{IsBelow, negation, Clause, IsIn, is_bound, ArePairs, Within, slot, others};
 ghost use Rattle.q_kernel.specs.Prelude.{slots};
-ghost use Rattle.q_blocked.specs.Walks.{IsOpenAt, CoversNothing};
+ghost use Rattle.q_blocked.specs.Walks.{IsOpenAt, CoversNothing, HasShared};
+ghost use Rattle.q_blocked.specs.Notes.{AreApart};
 
-use crate::clashing::{clashes, is_fresh};
+use crate::apart::Apart;
+use crate::clashing::{clashes, is_kept};
 use crate::couples::couples_cover_nothing;
 use q_kernel::{ClauseId, Kernel};
 use q_logic::{Lit, NoMemory, holds};
@@ -91,48 +93,79 @@ fn is_open(kernel: &Kernel, set: &Queue, c: ClauseId, d: ClauseId, l: Lit) -> bo
     !clashes(kernel, set, clause, l)
 }
 
-// Whether no literal of a clause is in its outer clause on m, not in the set, and in a second clause. The second one is
-// walked along as far as the literals of the first one lead.
-fn share_nothing(kernel: &Kernel, set: &Queue, m: Lit, first: &[Lit], second: &[Lit]) -> bool
+/// What a clause has in its outer part in common with a second one.
+#[derive(Clone, Copy, Debug)]
+pub enum Shared {
+    /// A literal that is not in the set.
+    Fresh,
+    /// Literals of the set alone.
+    OfSet,
+    /// No literal.
+    Nothing,
+}
+
+// What a clause has in its outer clause on m in common with a second one, which is walked along as far as the literals of the first
+// one lead.
+fn share(kernel: &Kernel, set: &Queue, m: Lit, first: &[Lit], second: &[Lit]) -> Shared
     requires within { Within kernel.now.prefix first.now }
     requires bound { is_bound kernel.now.prefix m.var ≡ true }
     requires ordered { ArePairs IsBelow first.now }
     requires other { ArePairs IsBelow second.now }
-    ensures { result ≡ true → (k : Literal) → IsIn k first.now → keeps kernel.now.prefix m k ≡ true
-        → IsIn k second.now → (IsIn k set.now → ⊥) → ⊥ }
+    ensures { HasShared kernel.now.prefix m set.now first.now second.now result }
 {
     let mut at = 0;
+    let mut nothing = true;
     for k in first {
-        if !is_fresh(kernel, set, m, *k) {
+        if !is_kept(kernel, m, *k) {
             continue;
         }
         at = skip_to(second, at, *k);
-        if is_at(second, at, *k) {
-            return false;
+        if !is_at(second, at, *k) {
+            continue;
         }
+        if !set.has(*k) {
+            return Shared::Fresh;
+        }
+        nothing = false;
     }
-    true
+    if nothing {
+        return Shared::Nothing;
+    }
+    Shared::OfSet
 }
 
-// Whether two clauses with the negation of l have nothing in common beyond the set.
-fn do_part(kernel: &Kernel, set: &Queue, pair: Pair, l: Lit) -> bool
+// The same of the clauses of two ids with the negation of l.
+fn share_on(kernel: &Kernel, set: &Queue, pair: Pair, l: Lit) -> Shared
     requires first { (C : Clause) × (slot (slots kernel.now) pair.first ≡ Some C)
         × IsIn (negation l) C }
     requires second { (C : Clause) × (slot (slots kernel.now) pair.second ≡ Some C) }
-    ensures { result ≡ true → (C D : Clause) → slot (slots kernel.now) pair.first ≡ Some C
-        → slot (slots kernel.now) pair.second ≡ Some D → (k : Literal) → IsIn k C
-        → keeps kernel.now.prefix (negation l) k ≡ true → IsIn k D → (IsIn k set.now → ⊥) → ⊥ }
+    ensures { (C D : Clause) → slot (slots kernel.now) pair.first ≡ Some C
+        → slot (slots kernel.now) pair.second ≡ Some D
+        → HasShared kernel.now.prefix (negation l) set.now C D result }
 {
     let first = clause_of(kernel, pair.first);
     let second = clause_of(kernel, pair.second);
-    share_nothing(kernel, set, l.negated(), first, second)
+    share(kernel, set, l.negated(), first, second)
 }
 
-/// Whether the clauses that were noted for a literal show that the set has all that is covered on it.
-pub fn covers_nothing(kernel: &Kernel, set: &Queue, pairs: &Pairs, c: ClauseId, l: Lit) -> bool
-    ensures { result ≡ true → CoversNothing kernel.now.prefix (others c (slots kernel.now)) l
-        set.now }
+/// Whether the clauses that were noted for a literal show that the set has all that is covered on it. Where they have nothing in
+/// common, that is noted, unless memory is wanting.
+pub fn covers_nothing(
+    kernel: &Kernel,
+    set: &Queue,
+    pairs: &Pairs,
+    apart: &mut Apart,
+    c: ClauseId,
+    l: Lit,
+) -> bool
+    requires { AreApart kernel.now apart.old }
+    ensures nothing { result ≡ true → CoversNothing kernel.now.prefix
+        (others c (slots kernel.now)) l set.now }
+    ensures apart { AreApart kernel.now apart.new }
 {
+    if apart.cover_nothing(kernel, set, c, l) {
+        return true;
+    }
     let pair = pairs.of(l);
     if couples_cover_nothing(kernel, set, c, pair, l) {
         return true;
@@ -143,5 +176,12 @@ pub fn covers_nothing(kernel: &Kernel, set: &Queue, pairs: &Pairs, c: ClauseId, 
     if !is_open(kernel, set, c, pair.second, l) {
         return false;
     }
-    do_part(kernel, set, pair, l)
+    match share_on(kernel, set, pair, l) {
+        Shared::Fresh => false,
+        Shared::OfSet => true,
+        Shared::Nothing => {
+            let _had_room = apart.note(l, pair);
+            true
+        }
+    }
 }

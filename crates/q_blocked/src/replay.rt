@@ -12,7 +12,9 @@
 //! **Cost.** One look at a clause for each hidden literal, and one walk along a list for each step of covered ones.
 ghost use Rattle.std.specs.Prelude.{◌≡◌, IfOk};
 ghost use Rattle.q_blocked.specs.Growths.{Growing, HasReplayed};
+ghost use Rattle.q_blocked.specs.Notes.{AreApart};
 
+use crate::apart::Apart;
 use crate::cover::cover_at;
 use crate::growth::Growth;
 use crate::hidden::{give, hidden_by};
@@ -79,9 +81,17 @@ fn redo_hidden(
 }
 
 // Takes a step, where it can be taken. Yes where the growth ends.
-fn redo(kernel: &Kernel, growth: &mut Growth, c: ClauseId, step: Step) -> Result<bool, NoMemory>
-    requires { Growing kernel.now c growth.old }
-    ensures { IfOk result (HasReplayed kernel.now c growth.old growth.new) }
+fn redo(
+    kernel: &Kernel,
+    growth: &mut Growth,
+    apart: &mut Apart,
+    c: ClauseId,
+    step: Step,
+) -> Result<bool, NoMemory>
+    requires growing { Growing kernel.now c growth.old }
+    requires apart { AreApart kernel.now apart.old }
+    ensures replayed { IfOk result (HasReplayed kernel.now c growth.old growth.new) }
+    ensures apart { AreApart kernel.now apart.new }
 {
     match step {
         Step::Hidden(d) => redo_hidden(kernel, growth, c, d),
@@ -89,7 +99,7 @@ fn redo(kernel: &Kernel, growth: &mut Growth, c: ClauseId, step: Step) -> Result
             if place >= growth.set.len() {
                 return Ok(false);
             }
-            let progress = cover_at(kernel, growth, c, place)?;
+            let progress = cover_at(kernel, growth, apart, c, place)?;
             Ok(progress.is_ended())
         }
     }
@@ -98,14 +108,17 @@ fn redo(kernel: &Kernel, growth: &mut Growth, c: ClauseId, step: Step) -> Result
 fn replay(
     kernel: &Kernel,
     growth: &mut Growth,
+    apart: &mut Apart,
     c: ClauseId,
     steps: &[Step],
 ) -> Result<bool, NoMemory>
-    requires { Growing kernel.now c growth.old }
-    ensures { IfOk result (HasReplayed kernel.now c growth.old growth.new) }
+    requires growing { Growing kernel.now c growth.old }
+    requires apart { AreApart kernel.now apart.old }
+    ensures replayed { IfOk result (HasReplayed kernel.now c growth.old growth.new) }
+    ensures apart { AreApart kernel.now apart.new }
 {
     for step in steps {
-        if redo(kernel, growth, c, *step)? {
+        if redo(kernel, growth, apart, c, *step)? {
             return Ok(true);
         }
     }
@@ -114,13 +127,21 @@ fn replay(
 
 /// Grows by the steps of the hint, if it is for this clause. Yes where the growth ends.
 pub(crate) fn use_hint(kernel: &Kernel, search: &mut Search, c: ClauseId) -> Result<bool, NoMemory>
-    requires { Growing kernel.now c search.old.growth }
+    requires growing { Growing kernel.now c search.old.growth }
+    requires apart { AreApart kernel.now search.old.apart }
     ensures replayed { IfOk result (HasReplayed kernel.now c search.old.growth search.new.growth) }
     ensures units { search.new.units ≡ search.old.units }
     ensures watches { search.new.watches ≡ search.old.watches }
+    ensures apart { AreApart kernel.now search.new.apart }
 {
     if !search.hint.is_used_for(c) {
         return Ok(false);
     }
-    replay(kernel, &mut search.growth, c, &search.hint.steps)
+    replay(
+        kernel,
+        &mut search.growth,
+        &mut search.apart,
+        c,
+        &search.hint.steps,
+    )
 }

@@ -2,6 +2,7 @@
 //! them, and then no step can fail.
 ghost use Rattle.q_blocked.specs.Targets.{target_of};
 
+use crate::apart::Apart;
 use crate::dispatch::{fits, take};
 use crate::find::find_from;
 use crate::growth::Growth;
@@ -30,6 +31,7 @@ impl Rules for Search {
             hint: Hint::new(alloc),
             units: Units::new(alloc),
             watches: Watches::new(alloc),
+            apart: Apart::new(alloc),
             needed: Needed::new(alloc),
             larger: Vec::new(alloc),
         }

@@ -1,4 +1,5 @@
 //! What searches lend each other.
+use crate::apart::Apart;
 use crate::growth::Growth;
 use crate::needed::Needed;
 use crate::replay::Hint;
@@ -17,6 +18,8 @@ pub struct Search {
     pub(crate) units: Units,
     /// Two watched literals for each clause, where many clauses were tested.
     pub(crate) watches: Watches,
+    /// Clauses that show, whatever a set is, that nothing is covered.
+    pub(crate) apart: Apart,
     /// Room for the steps on which a growth rests.
     pub(crate) needed: Needed,
     /// Room for the larger clauses of a plan.

@@ -1,1 +1,2 @@
 mod CommandFiles
+mod JobWords

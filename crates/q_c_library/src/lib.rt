@@ -1,15 +1,23 @@
-//! Celdrinn for programs in C: `simplify`, `check` and `rebuild` over bytes in memory. Each call is one run of the program over
-//! files in memory, and its answer is the program's exit status. packaging/celdrinn.h declares the calls.
+//! Celdrinn for programs in C: any command by its words, and `simplify`, `check` and `rebuild`, over bytes in memory. Each call is
+//! one run of the program over files in memory, and its answer is the program's exit status. packaging/celdrinn.h declares the calls.
 #![tactic(auto)]
 
 mod copying;
+mod job;
+mod job_run;
+mod made;
 mod running;
 
-ghost use Rattle.std.specs.Prelude.{◌≡◌, ◌∷◌, [], codes};
+ghost use Rattle.std.specs.Prelude.{◌≡◌, ◌∷◌, [], codes, length, replicate};
 ghost use Rattle.q_io.specs.Files.{bytes_at};
 ghost use Rattle.q_c_library.specs.Calls.{Called, Copied, HoldsFour, HoldsOne, HoldsThree, no_lengths, over_three};
+ghost use Rattle.q_c_library.specs.Jobs.{JobCalled, lengths_of, made_of};
 
 use copying::{put, put_file};
+use job::NoJob;
+pub use job::Word;
+use job_run::run_job;
+use made::{put_made, tell_lengths};
 use q_app::Status;
 use running::{Left, check, rebuild, simplify};
 use std::alloc::Global;
@@ -111,5 +119,42 @@ pub extern "C" fn celdrinn_rebuild(
             left.status.code()
         }
         Err(_) => Status::NoMemory.code(),
+    }
+}
+
+/// Does what the words ask, as the program does with them, over the files that words give; the files of all other names do not
+/// exist. `lengths` says of each word how many bytes the file has that it names, and 0 where that was given or was not made; the
+/// bytes of all these files go to `made`, one behind the other, where they fit. It answers 64 with nothing made also where a word
+/// is no text, or there is not a length for each word.
+#[unsafe(no_mangle)]
+pub extern "C" fn celdrinn_run(
+    alloc: Global,
+    words: &[Word],
+    lengths: &mut [usize],
+    made: &mut [u8],
+    line: &mut [u8],
+    line_length: &mut usize,
+) -> u8
+    ensures { JobCalled words.now lengths.old result (λ disk text.
+        Copied text line.old line.new line_length.new
+        × Copied (made_of words.now disk) made.old made.new (length (made_of words.now disk))
+        × (lengths.new ≡ lengths_of words.now disk))
+        ((lengths.new ≡ replicate (length lengths.old) 0) × (line_length.new ≡ 0)
+        × (made.new ≡ made.old) × (line.new ≡ line.old)) }
+{
+    lengths.fill(0);
+    *line_length = 0;
+    if lengths.len() != words.len() {
+        return Status::Usage.code();
+    }
+    match run_job(alloc, words) {
+        Ok(done) => {
+            tell_lengths(words, &done.left.files, &done.words, lengths);
+            put_made(words, &done.left.files, &done.words, made);
+            *line_length = put(done.left.line.bytes(), line);
+            done.left.status.code()
+        }
+        Err(NoJob::NoText) => Status::Usage.code(),
+        Err(NoJob::NoMemory) => Status::NoMemory.code(),
     }
 }

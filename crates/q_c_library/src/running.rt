@@ -3,7 +3,7 @@ ghost use Rattle.std.specs.Prelude.{◌≡◌, ◌++◌, ◌∷◌, [], List, �
 ghost use Rattle.std.specs.FinMap as store;
 ghost use Rattle.q_c_library.specs.Calls.{Ran, RanOver, HoldsFour, HoldsOne, HoldsThree, over_three};
 
-use q_app::{Status, bounds_of, run};
+use q_app::{Status, bounds_of, run_whole};
 use q_guides::{Impatient, Quiet, Touched};
 use q_io::{SteadyFiles, SteadySink};
 use q_logic::NoMemory;
@@ -18,7 +18,7 @@ pub(crate) struct Left {
     pub line: SteadySink,
 }
 
-fn push_word(words: &mut Vec<String>, alloc: Global, word: &str) -> Result<(), NoMemory>
+pub(crate) fn push_word(words: &mut Vec<String>, alloc: Global, word: &str) -> Result<(), NoMemory>
     ensures { OnOk result (map (λ w. string_bytes w) words.new.items ≡ map (λ w.
         string_bytes w) words.old.items ++ word.now ∷ []) }
 {
@@ -40,7 +40,7 @@ fn words_of(alloc: Global, verb: &str) -> Result<Vec<String>, NoMemory>
 }
 
 // No files.
-fn no_files(alloc: Global) -> SteadyFiles
+pub(crate) fn no_files(alloc: Global) -> SteadyFiles
     ensures { (name : List ℕ) → store.get result name ≡ None }
 {
     let files = SteadyFiles::new(alloc);
@@ -98,7 +98,7 @@ fn rebuild_words(alloc: Global) -> Result<Vec<String>, NoMemory>
 }
 
 // Runs it. The guides are those of the program.
-fn command(alloc: Global, words: &[String], files: SteadyFiles) -> Result<Left, NoMemory>
+pub(crate) fn command(alloc: Global, words: &[String], files: SteadyFiles) -> Result<Left, NoMemory>
     ensures { IfOk result (λ left.
         Ran (map (λ w. string_bytes w) words.now) files left.status left.files left.line) }
 {
@@ -111,7 +111,7 @@ fn command(alloc: Global, words: &[String], files: SteadyFiles) -> Result<Left, 
     guides.push(Box::new(alloc, fewest)?)?;
     let shortest = Impatient::new(ShortestFirst::new());
     guides.push(Box::new(alloc, shortest)?)?;
-    let status = run(alloc, words, &mut files, &mut line, guides);
+    let status = run_whole(alloc, words, &mut files, &mut line, guides);
     Ok(Left {
         status,
         files,

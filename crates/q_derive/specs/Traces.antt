@@ -77,6 +77,28 @@ IsParent P missing R = ⊥
 IsParent P (single S) R = R ≡ S
 IsParent P (double S U) R = (k : Literal) × IsPivot P S U k × (R ≡ resolvent S U k)
 
+-- the pivot stands before each variable of the owner of which the lines hold different signs; a line that holds both signs differs
+-- from each that holds one
+abbrev pub MayMerge : Prefix → List Literal → List Literal → Literal → Type 0
+MayMerge P S U k =
+    (g : Literal) → IsIn g S → IsIn (negation g) U → is_existential P g.var ≡ true → place P k.var < place P g.var
+
+-- the one line, or a resolvent of the two by a pivot that may merge
+abbrev pub IsLawful : Prefix → Parents → List Literal → Type 0
+IsLawful P nothing R = ⊥
+IsLawful P missing R = ⊥
+IsLawful P (single S) R = R ≡ S
+IsLawful P (double S U) R = (k : Literal) × IsPivot P S U k × MayMerge P S U k × (R ≡ resolvent S U k)
+
+-- T holds both signs of a variable of the owner only where R does
+abbrev pub MergesOnly : Prefix → List Literal → List Literal → Type 0
+MergesOnly P R T =
+    (g : Literal) → is_existential P g.var ≡ true → IsIn g T → IsIn (negation g) T → IsIn g R × IsIn (negation g) R
+
+-- what is reduced to T, where all merges are lawful
+abbrev pub IsSource : Prefix → Parents → List Literal → List Literal → Type 0
+IsSource P from T R = IsLawful P from R × MergesOnly P R T
+
 -- each literal of the opponent stays
 abbrev pub IsKept : Prefix → List Literal → List Literal → Type 0
 IsKept P R T = (k : Literal) → IsIn k R → is_existential P k.var ≡ false → IsIn k T
@@ -91,23 +113,14 @@ IsShed P R T =
 abbrev pub IsMerged : Prefix → List Literal → Type 0
 IsMerged P T = (g : Literal) × (is_existential P g.var ≡ true) × IsIn g T × IsIn (negation g) T
 
--- the two lines hold different signs of a variable of the owner
-abbrev pub IsClash : Prefix → Parents → Type 0
-IsClash P nothing = ⊥
-IsClash P missing = ⊥
-IsClash P (single S) = ⊥
-IsClash P (double S U) = (g : Literal) × (is_existential P g.var ≡ true) × IsIn g S × IsIn (negation g) U
-
 -- a line that stands by itself; L says which may
 abbrev pub IsLeaf : Prefix → (List Literal → Type 0) → List Literal → Type 0
 IsLeaf P L T = L T × ¬ IsMerged P T
 
 -- a line that follows from others: a resolvent, if there are two, of which literals of the owner are taken away, and to which
--- others may come; without long-distance resolution no line holds both signs of a variable of the owner
-pub record IsInner (P : Prefix) (from : Parents) (T : List Literal) : Type 0 where
-  pub plain : ¬ IsMerged P T
-  pub apart : ¬ IsClash P from
-  pub reduced : (R : List Literal) × IsParent P from R × IsKept P R T × IsShed P R T
+-- others may come
+abbrev pub IsInner : Prefix → Parents → List Literal → Type 0
+IsInner P from T = (R : List Literal) × IsSource P from T R × IsKept P R T × IsShed P R T
 
 -- a line that names none, or one that does not stand before it, stands by itself
 abbrev pub Stands : Prefix → (List Literal → Type 0) → Parents → List Literal → Type 0

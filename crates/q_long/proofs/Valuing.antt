@@ -9,7 +9,8 @@ use Rattle.q_derive.specs.Extracted.{literals_of}
 use Rattle.q_derive.proofs.Layers.{place-before}
 use Rattle.q_derive.proofs.Deciding.{same-or_turned}
 use Rattle.q_long.specs.Valued.{picked}
-use Rattle.q_long.specs.Distant.{MayMerge, IsReduced, Follows, IsLongDerivation, positive, negative, holds, clash, plain, merged, said_by, said_at, said_within, said}
+use Rattle.q_derive.specs.Traces.{MayMerge}
+use Rattle.q_long.specs.Distant.{IsReduced, Follows, IsLongDerivation, positive, negative, holds, clash, plain, merged, said_by, said_at, said_within, said}
 
 -- literals by their variables
 pub as-positive : (k : Literal) → k.negative ≡ false → k ≡ positive k.var
@@ -224,7 +225,7 @@ Reads-choice v s t u (inl (inr r)) = inr (inl r)
 Reads-choice v s t u (inr (inl r)) = inl r
 Reads-choice v s t u (inr (inr r)) = inr (inr r)
 
-Reads-picked : (k : Literal) (s t : Circuit) (u : ℕ) → Reads (picked k s t) u → (k.var ≡ u) ⊎ (Reads s u ⊎ Reads t u)
+pub Reads-picked : (k : Literal) (s t : Circuit) (u : ℕ) → Reads (picked k s t) u → (k.var ≡ u) ⊎ (Reads s u ⊎ Reads t u)
 Reads-picked k s t u r = go k.negative r
   where
     turn : Reads t u ⊎ Reads s u → Reads s u ⊎ Reads t u

@@ -10,14 +10,9 @@ use Rattle.q_logic.specs.Sets.{has}
 use Rattle.q_logic.specs.Exchanging.{exchanged}
 use Rattle.q_derive.specs.Derivations.{Line, Reason, leaf, resolve, reduce, IsBefore, IsRest, HasEmpty, IsHitting, HoldsClause}
 use Rattle.q_derive.specs.Extracted.{literals_of}
-use Rattle.q_derive.specs.Traces.{IsMerged}
+use Rattle.q_derive.specs.Traces.{IsMerged, MayMerge}
 use Rattle.q_long.specs.Valued.{Value, value_for, picked}
 use Rattle.q_long.specs.Valued.{Line as ValuedLine}
-
--- the pivot stands before each variable of the owner of which the lines hold different signs
-abbrev pub MayMerge : Prefix → List Literal → List Literal → Literal → Type 0
-MayMerge P S U k =
-    (g : Literal) → IsIn g S → IsIn (negation g) U → is_existential P g.var ≡ true → place P k.var < place P g.var
 
 -- the literal may be taken away: it is one of the owner, and each literal of T stands before it
 pub record IsTaken (P : Prefix) (T : List Literal) (g : Literal) : Type 0 where

@@ -51,6 +51,32 @@ fn of_log(cause: &str) -> &'static str {
     }
 }
 
+// Why a proof of a solver is refused: as a log is, but its end has to be the empty clause.
+fn of_proof(cause: &str) -> &'static str {
+    match cause {
+        "11" => "the proof ends, and the empty clause is not there",
+        _ => of_log(cause),
+    }
+}
+
+// Why a trace is refused, or a line of the proof that it is.
+fn of_trace(cause: &str) -> &'static str {
+    match cause {
+        "1" => "this is no line of a trace",
+        "2" => "the trace ends before its verdict: the solver was stopped",
+        "3" => "the number of the line is not above those before it",
+        "4" => "a variable of the line is not in the prefix",
+        "5" => "no line is empty, or this one names a line that does not stand before it",
+        "6" => "the line names no other, and can't stand by itself",
+        "7" => "the two lines have no literal to resolve on",
+        "8" => "a number or the file is larger than is read",
+        "9" => "both signs of a variable, which can't stand there",
+        "10" => "a literal is lost",
+        "11" => "a literal is reduced before those that it has to stand behind",
+        _ => "",
+    }
+}
+
 // Why a file of circuits is refused.
 fn of_circuits(cause: &str) -> &'static str {
     match cause {
@@ -95,19 +121,31 @@ fn say_of_fit(rt: &HostRuntime, words: &[&str; WORDS]) {
     };
 }
 
-/// Says on standard error what the line of a refusal means.
-pub(crate) fn explain(rt: &HostRuntime, line: &str) {
+// What is refused by its line or at its end: the file that a command judges, and why.
+fn judged(command: &str, cause: &str) -> (&'static str, &'static str) {
+    match command {
+        "extract" => ("TRACE", of_trace(cause)),
+        "disprove" => ("PROOF", of_proof(cause)),
+        _ => ("LOG", of_log(cause)),
+    }
+}
+
+/// Says on standard error what the line of a refusal by a command means.
+pub(crate) fn explain(rt: &HostRuntime, command: &str, line: &str) {
     let words = words_of(line);
     match (words[0], words[1]) {
         ("input", role) => say(rt, role, words[3], of_formula(words[5])),
-        ("refused", "line") => say(rt, "LOG", words[2], of_log(words[4])),
+        ("refused", "line") => {
+            let (file, why) = judged(command, words[4]);
+            say(rt, file, words[2], why);
+        }
         ("refused", "end") => {
-            let why = of_log(words[3]);
-            let _ = eprintln!(rt; "celdrinn: LOG: {why}");
+            let (file, why) = judged(command, words[3]);
+            let _ = eprintln!(rt; "celdrinn: {file}: {why}");
         }
         ("extended", "line") => say(
             rt,
-            "LOG",
+            judged(command, "").0,
             words[2],
             "this literal was dropped by a reduction that can't be carried back",
         ),

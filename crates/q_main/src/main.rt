@@ -4,32 +4,40 @@
 ghost use Rattle.std.specs.Prelude.{◌≡◌, drop, IfOk, OnErr};
 ghost use Rattle.std.specs.Process.{exit_status};
 ghost use Rattle.q_command.specs.Statuses.{code_of};
-ghost use Rattle.q_app.specs.Commands.{request};
+ghost use Rattle.q_app.specs.Commands.{is_plain as spec_is_plain, request, seconds_of};
 ghost use Rattle.q_app.specs.Operands.{texts};
+ghost use Rattle.q_app.specs.Stopping.{AlarmKeeps, KeepsUntil};
 ghost use Rattle.q_command.specs.Devices.{devices};
-ghost use Rattle.q_app.specs.Says.{Does};
+ghost use Rattle.q_simplify.specs.AlarmViews.{view_alarm};
 ghost use Rattle.q_main.specs.Exits.{Exits};
 
+mod bell;
 mod board;
+mod deadline;
 mod explained;
 mod progress;
+mod ringing;
 mod sizes;
+mod stopping;
 mod teller;
 mod watched;
 mod wiped;
 
 use board::Board;
 use progress::Progress;
-use q_app::{Status, bounds_of, run};
-use q_guides::{Impatient, Touched};
+use q_app::{Status, bounds_of, is_plain, run};
+use q_guides::{Impatient, Touched, Unextended};
 use q_io::{DiskFiles, Files, Sink, StdSink};
-use q_logic::NoMemory;
+use q_logic::{Bounds, NoMemory};
 use q_sched::{FewestFirst, Guide, ShortestFirst};
+use q_simplify::Alarm;
+use ringing::Ringing;
 use std::alloc::Global;
 use std::fs::File;
 use std::process::ExitCode;
 use std::rc::Rc;
 use std::{env, io};
+use stopping::Stopping;
 use teller::Teller;
 use watched::Watched;
 use wiped::Wiped;
@@ -63,6 +71,14 @@ fn words(arguments: &[String]) -> &[String]
     }
 }
 
+// The command; the empty word where there is none.
+fn command_of(arguments: &[String]) -> &str {
+    match words(arguments).first() {
+        Some(word) => word.as_str(),
+        None => "",
+    }
+}
+
 // A word that is no text makes no command.
 fn without_words(error: io::Error) -> Status {
     if error.kind() == io::ErrorKind::OutOfMemory {
@@ -75,39 +91,73 @@ fn without_words(error: io::Error) -> Status {
 // One share of the board for each guide, and one for what the first tells of itself.
 type Shares = (Rc<Board>, Rc<Board>, Rc<Board>, Teller);
 
-fn shares_of(board: &Rc<Board>) -> Result<Shares, NoMemory> {
+fn shares_of(board: &Rc<Board>, stopping: &Rc<Stopping>) -> Result<Shares, NoMemory> {
     let first = board.clone()?;
     let second = board.clone()?;
     let third = board.clone()?;
     let told = board.clone()?;
-    Ok((first, second, third, Teller::new(told)))
+    let heeded = stopping.clone()?;
+    Ok((first, second, third, Teller::new(told, heeded)))
 }
 
-// Runs a command. Three guides are asked which target is tried next: first the one that looks where something changed, which
-// finds nearly all of them, and then the two plain ones, each until a few of its proposals in a row were refused. They are made
-// here, where they are handed on, since a function that makes a boxed guide and answers with it proves less than it seems to.
-fn run_guided<F: Files, S: Sink>(
+fn alarm_of(board: &Rc<Board>, stopping: &Rc<Stopping>) -> Result<Ringing, NoMemory> {
+    let told = board.clone()?;
+    let heeded = stopping.clone()?;
+    Ok(Ringing::new(heeded, told))
+}
+
+// The bounds of the first guide. Where an expansion copies variables, its universal leaves by extended reductions, so a plain run
+// has no such expansion.
+fn guiding_bounds(words: &[String]) -> Bounds {
+    let bounds = bounds_of(words);
+    if is_plain(words) {
+        Bounds {
+            grow: bounds.grow,
+            expand: 0,
+        }
+    } else {
+        bounds
+    }
+}
+
+// Runs a command under an alarm. Three guides are asked which target is tried next: first the one that looks where something
+// changed, which finds nearly all of them, in a plain run without extended universal reduction; and then the two plain ones, each
+// until a few of its proposals in a row were refused. They are made here, where they are handed on, since a function that makes a
+// boxed guide and answers with it proves less than it seems to.
+fn run_guided<F: Files, S: Sink, A: Alarm>(
     alloc: Global,
     words: &[String],
     files: &mut F,
     out: &mut S,
     shares: Shares,
+    alarm: &mut A,
 ) -> Result<Status, NoMemory>
-    ensures does { IfOk result (λ given. Does (request (texts words.now))
-        (devices F.Files S.Sink files.old out.old) given
+    ensures keeps { IfOk result (λ given.
+        KeepsUntil (view_alarm A.Alarm alarm.old) (view_alarm A.Alarm alarm.new)
+        (request (texts words.now)) (devices F.Files S.Sink files.old out.old) given
         (devices F.Files S.Sink files.new out.new)) }
+    ensures alarm { IfOk result (λ given. AlarmKeeps (request (texts words.now))
+        (seconds_of (texts words.now)) (spec_is_plain (texts words.now)) given
+        (view_alarm A.Alarm alarm.old) (view_alarm A.Alarm alarm.new)) }
     ensures nothing { OnErr result (devices F.Files S.Sink files.new out.new
         ≡ devices F.Files S.Sink files.old out.old) }
+    ensures silent { OnErr result
+        (view_alarm A.Alarm alarm.new ≡ view_alarm A.Alarm alarm.old) }
 {
     let (first, second, third, teller) = shares;
-    let touched = Touched::new(alloc, bounds_of(words), teller);
+    let touched = Touched::new(alloc, guiding_bounds(words), teller);
     let mut guides: Vec<Box<dyn Guide>> = Vec::new(alloc);
-    guides.push(Box::new(alloc, Progress::new(touched, first, false))?)?;
+    if is_plain(words) {
+        let unextended = Unextended::new(touched);
+        guides.push(Box::new(alloc, Progress::new(unextended, first, false))?)?;
+    } else {
+        guides.push(Box::new(alloc, Progress::new(touched, first, false))?)?;
+    }
     let fewest = Impatient::new(FewestFirst::new());
     guides.push(Box::new(alloc, Progress::new(fewest, second, false))?)?;
     let shortest = Impatient::new(ShortestFirst::new());
     guides.push(Box::new(alloc, Progress::new(shortest, third, true))?)?;
-    Ok(run(alloc, words, files, out, guides))
+    Ok(run(alloc, words, files, out, guides, alarm))
 }
 
 fn exit_of(status: Status) -> ExitCode
@@ -117,17 +167,19 @@ fn exit_of(status: Status) -> ExitCode
 }
 
 // Does what the arguments ask for, over any files and any sink. The exit status is that of what was done.
-fn exit_over<F: Files, S: Sink>(
+fn exit_over<F: Files, S: Sink, A: Alarm>(
     alloc: Global,
     arguments: &[String],
     files: &mut F,
     out: &mut S,
     shares: Shares,
+    alarm: &mut A,
 ) -> ExitCode
-    ensures { Exits (texts arguments.now) (devices F.Files S.Sink files.old out.old)
+    ensures { Exits (texts arguments.now) (view_alarm A.Alarm alarm.old)
+        (view_alarm A.Alarm alarm.new) (devices F.Files S.Sink files.old out.old)
         (exit_status result) (devices F.Files S.Sink files.new out.new) }
 {
-    match run_guided(alloc, words(arguments), files, out, shares) {
+    match run_guided(alloc, words(arguments), files, out, shares, alarm) {
         Ok(status) => exit_of(status),
         Err(NoMemory) => exit_of(Status::NoMemory),
     }
@@ -135,14 +187,23 @@ fn exit_over<F: Files, S: Sink>(
 
 // Does it over the real disk and standard output.
 fn exit_on_disk(rt: &HostRuntime, arguments: &[String]) -> Result<ExitCode, NoMemory> {
+    let stopping = Rc::new(rt.alloc(), Stopping::new(*rt))?;
     let board = Rc::new(rt.alloc(), Board::new(*rt))?;
-    let shares = shares_of(&board)?;
+    let shares = shares_of(&board, &stopping)?;
+    let mut alarm = alarm_of(&board, &stopping)?;
     let mut files = Watched::new(DiskFiles::new(rt), &board);
     let wiped = Wiped::new(rt, &board);
     let mut out = StdSink::new(&wiped);
-    let exit = exit_over(rt.alloc(), arguments, &mut files, &mut out, shares);
+    let exit = exit_over(
+        rt.alloc(),
+        arguments,
+        &mut files,
+        &mut out,
+        shares,
+        &mut alarm,
+    );
     board.finish();
-    wiped.explain();
+    wiped.explain(command_of(arguments));
     Ok(exit)
 }
 

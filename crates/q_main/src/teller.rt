@@ -1,6 +1,8 @@
-//! What a guide looks at, told to a board.
+//! What a guide looks at, told to a board. Where it is time to stop, the guide is told to give way, so that no long pass is waited
+//! for.
 
 use crate::board::Board;
+use crate::stopping::Stopping;
 use q_guides::{Pass, Watch};
 use q_kernel::Kernel;
 use std::rc::Rc;
@@ -9,17 +11,18 @@ use std::rc::Rc;
 #[derive(Drop)]
 pub(crate) struct Teller {
     board: Rc<Board>,
+    stopping: Rc<Stopping>,
 }
 
 impl Teller {
-    pub(crate) fn new(board: Rc<Board>) -> Teller {
-        Teller { board }
+    pub(crate) fn new(board: Rc<Board>, stopping: Rc<Stopping>) -> Teller {
+        Teller { board, stopping }
     }
 }
 
 impl Watch for Teller {
     fn look(&self, pass: Pass, kernel: &Kernel) -> bool {
         self.board.note_look(Some(pass), kernel);
-        true
+        !self.stopping.is_time_soon()
     }
 }

@@ -53,8 +53,8 @@ impl<'a> Wiped<'a> {
         }
     }
 
-    /// Says on standard error what the last line means, where it is a refusal.
-    pub(crate) fn explain(&self) {
+    /// Says on standard error what the last line means, where it is a refusal by a command.
+    pub(crate) fn explain(&self, command: &str) {
         let Ok(front) = self.printed.try_borrow() else {
             return;
         };
@@ -62,7 +62,7 @@ impl<'a> Wiped<'a> {
             return;
         }
         if let Ok(line) = std::str::from_utf8(&front.bytes[..front.len]) {
-            explain(self.rt, line);
+            explain(self.rt, command, line);
         }
     }
 }

@@ -25,13 +25,16 @@ use Rattle.q_resolve.specs.declared.fault.Fault.{Fault}
 use Rattle.q_resolve.specs.declared.fault.Fault.TheVariants.{Unbound, Missing, NoLeaf, NoPivot, Merged, Lost, Shed}
 use Rattle.q_resolve.specs.Faults.{IsFault, IsLeastFault}
 use Rattle.q_resolve.specs.Leaves.{MayStand, prefix_for}
-use Rattle.q_resolve.specs.Plain.{sided, side_values}
+use Rattle.q_resolve.specs.Sides.{sided, line_values}
+use Rattle.q_resolve.proofs.LineFaults.{lawful-parent}
 use Rattle.q_qrp.specs.Lines.{Proof}
 use Rattle.q_resolve.specs.declared.judged.Judged.{Judged}
 use Rattle.q_resolve.specs.declared.judged.Judged.TheVariants.{Proved, Refused}
 use Rattle.q_resolve.specs.Judged.{entries_of, sources_in, AreRight, IsFirst, IsRefusal, IsProofOf, Decide, IsMadeFor, IsAnswer}
 use Rattle.q_resolve.specs.Derived.{IsSided, IsDerivedFrom, IsStood}
-use Rattle.q_extract.specs.Merges.{HavePivotsIn}
+use Rattle.q_extract.specs.Saying.{said_in}
+use Rattle.q_extract.specs.Merges.{merge_circuits, HavePivotsIn}
+use Rattle.q_extract.specs.declared.said.Sayings.{Sayings}
 use Rattle.q_extract.specs.declared.said.Merge.{Merge}
 
 -- a line with a fault is not right
@@ -42,20 +45,20 @@ fault-wrong P L from T Missing (e, n) b s = n (subst (λ (x : Parents). Stands P
 fault-wrong P L from T NoLeaf (e, n) b s = n (subst (λ (x : Parents). Stands P L x T) e s)
 fault-wrong P L nothing T NoPivot (h, n) b s = h
 fault-wrong P L missing T NoPivot (h, n) b s = h
-fault-wrong P L (single S) T NoPivot (h, n) b s = n s.reduced.0 s.reduced.1
-fault-wrong P L (double S U) T NoPivot (h, n) b s = n s.reduced.0 s.reduced.1
+fault-wrong P L (single S) T NoPivot (h, n) b s = n s.0 (lawful-parent P (single S) s.0 s.1.0)
+fault-wrong P L (double S U) T NoPivot (h, n) b s = n s.0 (lawful-parent P (double S U) s.0 s.1.0)
 fault-wrong P L nothing T Merged (h, n) b s = h
 fault-wrong P L missing T Merged (h, n) b s = h
-fault-wrong P L (single S) T Merged (h, n) b s = elim n [ inl m ↦ s.plain m | inr m ↦ s.apart m ]
-fault-wrong P L (double S U) T Merged (h, n) b s = elim n [ inl m ↦ s.plain m | inr m ↦ s.apart m ]
+fault-wrong P L (single S) T Merged (h, n) b s = n s.0 s.1
+fault-wrong P L (double S U) T Merged (h, n) b s = n s.0 s.1
 fault-wrong P L nothing T Lost (h, n) b s = h
 fault-wrong P L missing T Lost (h, n) b s = h
-fault-wrong P L (single S) T Lost (h, n) b s = n s.reduced.0 s.reduced.1 s.reduced.2
-fault-wrong P L (double S U) T Lost (h, n) b s = n s.reduced.0 s.reduced.1 s.reduced.2
+fault-wrong P L (single S) T Lost (h, n) b s = n s.0 s.1 s.2
+fault-wrong P L (double S U) T Lost (h, n) b s = n s.0 s.1 s.2
 fault-wrong P L nothing T Shed (h, n) b s = h
 fault-wrong P L missing T Shed (h, n) b s = h
-fault-wrong P L (single S) T Shed (h, n) b s = n s.reduced.0 s.reduced.1 s.reduced.2 s.reduced.3
-fault-wrong P L (double S U) T Shed (h, n) b s = n s.reduced.0 s.reduced.1 s.reduced.2 s.reduced.3
+fault-wrong P L (single S) T Shed (h, n) b s = n s.0 s.1 s.2 s.3
+fault-wrong P L (double S U) T Shed (h, n) b s = n s.0 s.1 s.2 s.3
 
 pub proof-is : (o : Owner) (F : PrenexFormula) (es : List Entry) → IsTrace (prefix_for o F.prefix) (MayStand o F.matrix) es → IsProofOf o F es
 proof-is Exists F es t = t
@@ -191,12 +194,13 @@ finished-decides o F lines ds n made f h x = (record { inputs = x.inputs; output
         herbrand-made F lines n made f (derivation-map (exchanged F.prefix) (AreOf (IsSided Forall F.matrix)) (AreOf (IsTurned (HoldsClause F.matrix))) lines (clause-leaf F.matrix) h.derivation) h.ends
         (subst (λ (xs : List Drop). IsExtracted (exchanged F.prefix) xs n made) h.same x)
 
-pub finished-cone : (o : Owner) (F : PrenexFormula) (es : List Entry) (n : ℕ) (d : Drops) → IsEnd es n →
-    (h : IsDerivedFrom o (prefix_for o F.prefix) F.matrix es (length es) d) → IsFinished o F h.lines (drops_in d)
-finished-cone o F es n d e h = record {
+pub finished-cone : (o : Owner) (F : PrenexFormula) (es : List Entry) (n : ℕ) (d : Drops) (t : Sayings) → IsEnd es n →
+    (h : IsDerivedFrom o (prefix_for o F.prefix) F.matrix es (length es) d t) → IsFinished o F h.lines (drops_in d)
+finished-cone o F es n d t e h = record {
   derivation = h.derivation;
   same = h.same;
-  ends = let r = h.covers n (slice_get_within es n e.empty.0 e.empty.1) (end n e) e.empty.0 e.empty.1 in (r.0, r.1, r.2, r.3 ∙ ap (side_values o) e.empty.2);
+  ends = let r = (h.covers n (slice_get_within es n e.empty.0 e.empty.1) (end n e) e.empty.0 e.empty.1).there in
+      (r.0, r.1, r.2, r.3 ∙ ap (line_values (merge_circuits d.merges.items) (said_in t n) o) e.empty.2);
 }
 
 pub finished-leaf : (o : Owner) (F : PrenexFormula) (ds : List Drop) → ds ≡ [] → MayStand o F.matrix [] → (lines : List Line) × IsFinished o F lines ds
@@ -224,21 +228,21 @@ proved-endless o F proof P ds m made e f h l d x =
     let r = finished-decides o F z.0 ds m made f z.1 (subst (λ (Q : Prefix). IsExtracted Q ds m made) e x) in
     (endless-proof o F (entries_of proof.lines) h l, r.0, r.1)
 
-pub proved-ended : (o : Owner) (F : PrenexFormula) (proof : Proof) (P : Prefix) (n : ℕ) (d : Drops) (m : ℕ) (made : CertificateView) → P ≡ prefix_for o F.prefix → IsFormula F →
-    IsEnd (entries_of proof.lines) n → IsStood o P F.matrix (entries_of proof.lines) (length (entries_of proof.lines)) d → IsExtracted P (drops_in d) m made →
+pub proved-ended : (o : Owner) (F : PrenexFormula) (proof : Proof) (P : Prefix) (n : ℕ) (d : Drops) (u : Sayings) (m : ℕ) (made : CertificateView) → P ≡ prefix_for o F.prefix → IsFormula F →
+    IsEnd (entries_of proof.lines) n → IsStood o P F.matrix (entries_of proof.lines) (length (entries_of proof.lines)) d u → IsExtracted P (drops_in d) m made →
     IsAnswer o F proof (Proved made)
-proved-ended o F proof P n d m made e f h s x =
+proved-ended o F proof P n d u m made e f h s x =
     let es = entries_of proof.lines in
-    let t : IsStood o (prefix_for o F.prefix) F.matrix es (length es) d = subst (λ (Q : Prefix). IsStood o Q F.matrix es (length es) d) e s in
-    let r = finished-decides o F t.derived.lines (drops_in d) m made f (finished-cone o F es n d h t.derived) (subst (λ (Q : Prefix). IsExtracted Q (drops_in d) m made) e x) in
+    let t : IsStood o (prefix_for o F.prefix) F.matrix es (length es) d u = subst (λ (Q : Prefix). IsStood o Q F.matrix es (length es) d u) e s in
+    let r = finished-decides o F t.derived.lines (drops_in d) m made f (finished-cone o F es n d u h t.derived) (subst (λ (Q : Prefix). IsExtracted Q (drops_in d) m made) e x) in
     (ended-proof o F es n h t.right, r.0, r.1)
 
-pub ended-behind : (o : Owner) (F : PrenexFormula) (proof : Proof) (P : Prefix) (n : ℕ) (d : Drops) → P ≡ prefix_for o F.prefix →
-    IsEnd (entries_of proof.lines) n → IsStood o P F.matrix (entries_of proof.lines) (length (entries_of proof.lines)) d → AreBehind P (drops_in d)
-ended-behind o F proof P n d e h s =
+pub ended-behind : (o : Owner) (F : PrenexFormula) (proof : Proof) (P : Prefix) (n : ℕ) (d : Drops) (u : Sayings) → P ≡ prefix_for o F.prefix →
+    IsEnd (entries_of proof.lines) n → IsStood o P F.matrix (entries_of proof.lines) (length (entries_of proof.lines)) d u → AreBehind P (drops_in d)
+ended-behind o F proof P n d u e h s =
     let es = entries_of proof.lines in
-    let t : IsStood o (prefix_for o F.prefix) F.matrix es (length es) d = subst (λ (Q : Prefix). IsStood o Q F.matrix es (length es) d) e s in
-    subst (λ (Q : Prefix). AreBehind Q (drops_in d)) (sym e) (finished-behind o F t.derived.lines (drops_in d) (finished-cone o F es n d h t.derived))
+    let t : IsStood o (prefix_for o F.prefix) F.matrix es (length es) d u = subst (λ (Q : Prefix). IsStood o Q F.matrix es (length es) d u) e s in
+    subst (λ (Q : Prefix). AreBehind Q (drops_in d)) (sym e) (finished-behind o F t.derived.lines (drops_in d) (finished-cone o F es n d u h t.derived))
 
 pub none-behind : (P : Prefix) (ds : List Drop) → ds ≡ [] → AreBehind P ds
 none-behind P ds e = subst (AreBehind P) (sym e) (λ d m. absurd m)

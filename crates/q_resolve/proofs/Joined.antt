@@ -6,7 +6,7 @@ use Rattle.q_logic.specs.Prefixes.{place}
 use Rattle.q_logic.proofs.Common.{IsIn-append, IsIn-append_left, IsIn-append_right, literal_eq-sound, literal_eq-itself}
 use Rattle.q_derive.specs.Traces.{resolvent}
 use Rattle.q_resolve.specs.declared.leaves.Owner.{Owner}
-use Rattle.q_resolve.specs.Plain.{sided}
+use Rattle.q_resolve.specs.Sides.{sided}
 use Rattle.q_resolve.specs.Reduced.{front_of, back_of, IsJoined, IsSame}
 
 pub joined-none : (old : List Literal) → IsJoined old [] old

@@ -4,6 +4,10 @@ pub mod Reduced
 pub mod Joined
 pub mod Standing
 pub mod LineFaults
+pub mod Sided
+pub mod Merging
+pub mod Passing
+pub mod Sayings
 pub mod Lined
 pub mod Deriving
 pub mod Coned

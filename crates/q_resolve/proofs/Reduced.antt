@@ -1,26 +1,15 @@
 -- What the tests of a reduction say of it.
-use Rattle.std.proofs.Common.{◌≡◌, ℕ, suc, ◌<◌, ◌≤◌, Bool, true, false, cond, not, eqb, nat_lt, List, [], ◌∷◌, ◌++◌, ◌⊎◌, inl, inr, length, map, arith, refl, sym, ap, ap₂, ◌∙◌, subst, Option, None}
-use Rattle.q_logic.specs.Prelude.{Literal, negation, bool_eq, Prefix, IsIn, is_bound, is_existential, has}
+use Rattle.std.proofs.Common.{◌≡◌, ℕ, suc, ◌<◌, ◌≤◌, Bool, true, false, cond, not, eqb, nat_lt, List, [], ◌∷◌, ◌++◌, ◌⊎◌, inl, inr, length, arith, refl, sym, subst}
+use Rattle.q_logic.specs.Prelude.{Literal, Prefix, IsIn, is_bound, is_existential, has}
 use Rattle.q_logic.specs.Prefixes.{place}
-use Rattle.q_logic.proofs.Common.{has-IsIn, IsIn-has, IsIn-append, IsIn-append_left, IsIn-append_right}
-use Rattle.q_long.specs.Valued.{Value, value_for, values_for}
-use Rattle.q_long.specs.Decided.{Drop, drops_of}
+use Rattle.q_logic.proofs.Common.{has-IsIn, IsIn-has, IsIn-append_left, IsIn-append_right}
 use Rattle.q_derive.specs.Traces.{IsKept, IsShed, AreBound}
 use Rattle.q_derive.specs.Testing.{every, some}
 use Rattle.q_derive.proofs.Testing.{Decides, both, either, neither, every-decides, some-decides, has-decides, below-decides}
-use Rattle.q_logic.specs.Prelude.{Circuit}
-use Rattle.q_extract.specs.Saying.{said_in}
-use Rattle.q_extract.specs.Merges.{merge_circuits, value_at}
-use Rattle.q_extract.specs.Rows.{drops_in, said_next, values_next, IsMore}
-use Rattle.q_extract.proofs.Merged.{value-plain}
-use Rattle.q_resolve.specs.Plain.{ArePlain, sided, side_values}
-use Rattle.q_extract.specs.declared.drops.Drops.{Drops}
 use Rattle.q_resolve.specs.Tests.{is_gone, is_away, is_front, lesser, outermost, outermost_from}
-use Rattle.q_resolve.specs.declared.leaves.Owner.{Owner}
-use Rattle.q_resolve.specs.declared.leaves.Owner.TheVariants.{Exists, Forall}
-use Rattle.q_resolve.specs.Reduced.{front_of, back_of, IsNoted}
+use Rattle.q_resolve.specs.Reduced.{front_of, back_of}
 
-place-within : (P : Prefix) (x : ℕ) → is_bound P x ≡ true → place P x < length P
+pub place-within : (P : Prefix) (x : ℕ) → is_bound P x ≡ true → place P x < length P
 place-within [] x h = absurd (cc)
 place-within (b ∷ P) x h = go (eqb b.var x) h (place-within P x)
   where
@@ -37,7 +26,7 @@ gone-decides P T k = both (not (has k T)) (not (is_existential P k.var)) (IsIn k
     other true = (λ h. absurd (cc), λ h. absurd (cc))
     other false = (λ h. refl, λ h. refl)
 
-away-decides : (P : Prefix) (T : List Literal) (k : Literal) → Decides (is_away P T k) ((IsIn k T → ⊥) × (is_existential P k.var ≡ true))
+pub away-decides : (P : Prefix) (T : List Literal) (k : Literal) → Decides (is_away P T k) ((IsIn k T → ⊥) × (is_existential P k.var ≡ true))
 away-decides P T k = both (not (has k T)) (is_existential P k.var) (IsIn k T → ⊥) (is_existential P k.var ≡ true)
     (neither (has k T) (IsIn k T) (has-decides k T)) (λ h. h, λ h. h)
 
@@ -45,7 +34,7 @@ front-decides : (P : Prefix) (at : ℕ) (k : Literal) → Decides (is_front P at
 front-decides P at k = either (is_existential P k.var) (nat_lt (place P k.var) at) (is_existential P k.var ≡ true) (place P k.var < at)
     (λ h. h, λ h. h) (below-decides (place P k.var) at)
 
-true-or : (b : Bool) → (b ≡ true) ⊎ (b ≡ false)
+pub true-or : (b : Bool) → (b ≡ true) ⊎ (b ≡ false)
 true-or true = inl refl
 true-or false = inr refl
 
@@ -119,7 +108,7 @@ least-there P T (k ∷ R) n h = go (is_away P T k) refl (nat_lt (place P k.var) 
     go true a false e l ih = later ih n l
     go false a c e l ih = later ih n l
 
-away-true : (P : Prefix) (T : List Literal) (g : Literal) → (IsIn g T → ⊥) → is_existential P g.var ≡ true → is_away P T g ≡ true
+pub away-true : (P : Prefix) (T : List Literal) (g : Literal) → (IsIn g T → ⊥) → is_existential P g.var ≡ true → is_away P T g ≡ true
 away-true P T g n o = (away-decides P T g).1 (n, o)
 
 -- all literals of the opponent stand before it
@@ -201,150 +190,46 @@ front-or-back P at R k m = elim (either-in R m) [ inl i ↦ IsIn-append_left k (
         go false (inl e) ih = inr (inl e)
         go false (inr i) ih = elim (ih i) [ inl x ↦ inl x | inr x ↦ inr (inr x) ]
 
--- the literals of lines without merges as values
-plain-values : (cs : List Circuit) (f : ℕ → Option ℕ) (T : List Literal) → ((x : ℕ) → f x ≡ None) → map (value_at cs f) T ≡ values_for T
-plain-values cs f [] h = refl
-plain-values cs f (k ∷ T) h = ap₂ (λ (v : Value) (vs : List Value). v ∷ vs) (value-plain cs f k (h k.var)) (plain-values cs f T h)
+-- what goes from the outermost place on are literals of the owner
+pub back-owned : (P : Prefix) (R T : List Literal) → AreBound P R → IsShed P R T → (k : Literal) → IsIn k (back_of P (outermost P T R) R) → is_existential P k.var ≡ true
+back-owned P R T b shed k m = elim (true-or (is_existential P k.var)) [
+  | inl o ↦ o
+  | inr o ↦ absurd (
+      let r = back-in P (outermost P T R) R k m in
+      let l : place P k.var < length P = place-within P k.var (b k r.0) in
+      let n = r.1 in
+      let w : outermost P T R < length P = omega arith in
+      let y = least-there P T R (length P) w in
+      let a = (away-decides P T y.0).0 y.2 in
+      elim (shed y.0 y.1 a.1) [ inl i ↦ a.0 i | inr f ↦ (let z = f k r.0 o in let x = y.3 in omega arith) ])
+]
 
-next-plain : (d : Drops) (T : List Literal) → ArePlain d → values_next d T ≡ values_for T
-next-plain d T h = plain-values (merge_circuits d.merges.items) (said_next d) T (λ x. h.said (length d.guards) x)
-
-pub more-plain : (old new : Drops) (ds : List Drop) → ArePlain old → IsMore old new ds → ArePlain new
-more-plain old new ds h m = record {
-  sound = m.sound;
-  merges = ap (λ ms. ms.items) m.merges ∙ h.merges;
-  said = λ g x. ap (λ s. said_in s g x) m.said ∙ h.said g x;
-}
-
-pub side-var : (o : Owner) (k : Literal) → (sided o k).var ≡ k.var
-side-var Exists k = refl
-side-var Forall k = refl
-
-pub side-in : (o : Owner) (T : List Literal) (k : Literal) → IsIn k T → IsIn (value_for (sided o k)) (side_values o T)
-side-in o [] k m = absurd m
-side-in o (j ∷ T) k (inl e) = inl (ap (λ (x : Literal). value_for (sided o x)) e)
-side-in o (j ∷ T) k (inr m) = inr (side-in o T k m)
-
-pub side-out : (o : Owner) (T : List Literal) (v : Value) → IsIn v (side_values o T) → (k : Literal) × IsIn k T × (v ≡ value_for (sided o k))
-side-out o [] v m = absurd m
-side-out o (j ∷ T) v (inl e) = (j, inl refl, e)
-side-out o (j ∷ T) v (inr m) = let r = side-out o T v m in (r.0, inr r.1, r.2)
-
--- a value of a line without both signs of a variable is the only one of its variable
-same-or-turned : (j k : Literal) → j.var ≡ k.var → (j ≡ k) ⊎ (j ≡ negation k)
-same-or-turned j k e = go (bool_eq j.negative k.negative) refl
+-- what stands before it stays
+pub front-stays : (P : Prefix) (R T : List Literal) → IsKept P R T → (k : Literal) → IsIn k (front_of P (outermost P T R) R) → IsIn k T
+front-stays P R T kept k m = elim (true-or (is_existential P k.var)) [ inl o ↦ go o (has k T) refl | inr o ↦ kept k (front-in P (outermost P T R) R k m).0 o ]
   where
-    equal : (a b : Bool) → bool_eq a b ≡ true → a ≡ b
-    equal true true q = refl
-    equal true false q = absurd (cc)
-    equal false true q = absurd (cc)
-    equal false false q = refl
+    go : is_existential P k.var ≡ true → (c : Bool) → has k T ≡ c → IsIn k T
+    go o true q = has-IsIn k T q
+    go o false q = absurd (
+        let r = front-in P (outermost P T R) R k m in
+        let n : outermost P T R ≤ place P k.var = least-taken P T R (length P) k r.0 (away-true P T k (λ y. let z : has k T ≡ true = IsIn-has k T y in cc) o) in
+        let l = r.1 in omega arith)
 
-    unequal : (a b : Bool) → bool_eq a b ≡ false → a ≡ not b
-    unequal true true q = absurd (cc)
-    unequal true false q = refl
-    unequal false true q = refl
-    unequal false false q = absurd (cc)
+-- nothing stands behind the end of the prefix
+pub back-none : (P : Prefix) (at : ℕ) (R : List Literal) → length P ≤ at → AreBound P R → back_of P at R ≡ []
+back-none P at [] l b = refl
+back-none P at (k ∷ R) l b =
+    let w : place P k.var < length P = place-within P k.var (b k (inl refl)) in
+    let e : nat_lt (place P k.var) at ≡ true = grind arith in
+    let r : back_of P at R ≡ [] = back-none P at R l (λ j m. b j (inr m)) in rw (e, r) refl
 
-    go : (b : Bool) → bool_eq j.negative k.negative ≡ b → (j ≡ k) ⊎ (j ≡ negation k)
-    go true q = let s : j.negative ≡ k.negative = equal j.negative k.negative q in inl (λ i. record { var = e i; negative = s i })
-    go false q = let s : j.negative ≡ not k.negative = unequal j.negative k.negative q in inr (λ i. record { var = e i; negative = s i })
-
--- nothing is taken away, or all from the outermost place on
-pub noted-nothing : (o : Owner) (P : Prefix) (R T : List Literal) (old new : Drops) → AreBound P R → IsKept P R T → length P ≤ outermost P T R →
-    drops_in new ≡ drops_in old ++ [] → IsNoted o P R T old new
-noted-nothing o P R T old new b kept le e not-merged = (
-  side_values o R,
-  [],
-  record {
-    whole = λ k m. IsIn-append_left (value_for (sided o k)) (side_values o R) [] (side-in o R k m);
-    from = λ v m. elim (IsIn-append v (side_values o R) [] m) [ inl i ↦ side-out o R v i | inr i ↦ absurd i ];
-    kept = λ v m. let r = side-out o R v m in subst (λ (w : Value). IsIn w (side_values o T)) (sym r.2) (side-in o T r.0 (all r.0 r.1));
-    apart = record { owned = λ g m. absurd m; alone = λ g m. absurd m; behind = λ g m. absurd m };
-    drops = e;
-  },
-)
+pub in-front : (P : Prefix) (at : ℕ) (R : List Literal) (k : Literal) → IsIn k R → place P k.var < at → IsIn k (front_of P at R)
+in-front P at [] k m l = absurd m
+in-front P at (j ∷ R) k (inl q) l =
+    let e : nat_lt (place P j.var) at ≡ true = subst (λ (x : Literal). nat_lt (place P x.var) at ≡ true) q ((below-decides (place P k.var) at).1 l) in
+    rw e (inl q)
+in-front P at (j ∷ R) k (inr m) l = go (nat_lt (place P j.var) at) (in-front P at R k m l)
   where
-    all : (k : Literal) → IsIn k R → IsIn k T
-    all k m = elim (true-or (is_existential P k.var)) [ inl o ↦ go o (has k T) refl | inr o ↦ kept k m o ]
-      where
-        go : is_existential P k.var ≡ true → (c : Bool) → has k T ≡ c → IsIn k T
-        go o true q = has-IsIn k T q
-        go o false q = absurd (
-            let n : outermost P T R ≤ place P k.var = least-taken P T R (length P) k m (away-true P T k (λ y. let z : has k T ≡ true = IsIn-has k T y in cc) o) in
-            let l : place P k.var < length P = place-within P k.var (b k m) in omega arith)
-
-pub noted-taken : (o : Owner) (P : Prefix) (R T : List Literal) (old new : Drops) → ArePlain old → IsKept P R T →
-    every (λ (k : Literal). is_front P (outermost P T R) k) R ≡ true →
-    drops_in new ≡ drops_in old ++ drops_of (values_next old (map (sided o) (back_of P (outermost P T R) R))) (values_next old (map (sided o) (front_of P (outermost P T R) R))) →
-    IsNoted o P R T old new
-noted-taken o P R T old new plain kept clear e not-merged = (
-  G,
-  Ts,
-  record {
-    whole = λ k m. elim (IsIn-append k (front_of P at R) (back_of P at R) (front-or-back P at R k m)) [
-      | inl i ↦ IsIn-append_left (value_for (sided o k)) G Ts (side-in o (front_of P at R) k i)
-      | inr i ↦ IsIn-append_right (value_for (sided o k)) G Ts (side-in o (back_of P at R) k i)
-    ];
-    from = λ v m. source v m;
-    kept = λ v m. let r = side-out o (front_of P at R) v m in subst (λ (w : Value). IsIn w (side_values o T)) (sym r.2) (side-in o T r.0 (within r.0 r.1));
-    apart = record { owned = λ g m. owned g m; alone = λ g m v n q. alone g m v n q; behind = λ g m v n. behind g m v n };
-    drops = e ∙ ap₂ (λ (xs ys : List Value). drops_in old ++ drops_of xs ys) (next-plain old (map (sided o) (back_of P at R)) plain) (next-plain old (map (sided o) (front_of P at R)) plain);
-  },
-)
-  where
-    at : ℕ
-    at = outermost P T R
-
-    G : List Value
-    G = side_values o (front_of P at R)
-
-    Ts : List Value
-    Ts = side_values o (back_of P at R)
-
-    source : (v : Value) → IsIn v (G ++ Ts) → (k : Literal) × IsIn k R × (v ≡ value_for (sided o k))
-    source v m = elim (IsIn-append v G Ts m) [
-      | inl i ↦ let r = side-out o (front_of P at R) v i in (r.0, (front-in P at R r.0 r.1).0, r.2)
-      | inr i ↦ let r = side-out o (back_of P at R) v i in (r.0, (back-in P at R r.0 r.1).0, r.2)
-    ]
-
-    within : (k : Literal) → IsIn k (front_of P at R) → IsIn k T
-    within k m = elim (true-or (is_existential P k.var)) [ inl o ↦ go o (has k T) refl | inr o ↦ kept k (front-in P at R k m).0 o ]
-      where
-        go : is_existential P k.var ≡ true → (c : Bool) → has k T ≡ c → IsIn k T
-        go o true q = has-IsIn k T q
-        go o false q = absurd (
-            let r = front-in P at R k m in
-            let n : at ≤ place P k.var = least-taken P T R (length P) k r.0 (away-true P T k (λ y. let z : has k T ≡ true = IsIn-has k T y in cc) o) in
-            let l = r.1 in omega arith)
-
-    own : (k : Literal) → IsIn k (back_of P at R) → is_existential P k.var ≡ true
-    own k m = elim (true-or (is_existential P k.var)) [
-      | inl o ↦ o
-      | inr o ↦ absurd (let r = back-in P at R k m in let l = clear-before P R at clear k r.0 o in let n = r.1 in omega arith)
-    ]
-
-    var-of : (v : Value) (k : Literal) → v ≡ value_for (sided o k) → v.var ≡ k.var
-    var-of v k q = ap (λ (w : Value). w.var) q ∙ side-var o k
-
-    owned : (g : Value) → IsIn g Ts → is_existential P g.var ≡ true
-    owned g m = let r = side-out o (back_of P at R) g m in subst (λ x. is_existential P x ≡ true) (sym (var-of g r.0 r.2)) (own r.0 r.1)
-
-    alone : (g : Value) → IsIn g Ts → (v : Value) → IsIn v (G ++ Ts) → v.var ≡ g.var → v ≡ g
-    alone g m v n q =
-        let r = side-out o (back_of P at R) g m in
-        let s = source v n in
-        elim (same-or-turned s.0 r.0 (sym (var-of v s.0 s.2) ∙ q ∙ var-of g r.0 r.2)) [
-          | inl e ↦ s.2 ∙ ap (λ (x : Literal). value_for (sided o x)) e ∙ sym r.2
-          | inr e ↦ absurd (not-merged (r.0, own r.0 r.1, (back-in P at R r.0 r.1).0, subst (λ (x : Literal). IsIn x R) e s.1))
-        ]
-
-    behind : (g : Value) → IsIn g Ts → (v : Value) → IsIn v G → place P v.var < place P g.var
-    behind g m v n =
-        let r = side-out o (back_of P at R) g m in
-        let s = side-out o (front_of P at R) v n in
-        let a = (back-in P at R r.0 r.1).1 in
-        let b = (front-in P at R s.0 s.1).1 in
-        let x = ap (place P) (var-of g r.0 r.2) in
-        let y = ap (place P) (var-of v s.0 s.2) in
-        omega arith
+    go : (b : Bool) → IsIn k (front_of P at R) → IsIn k (cond b (j ∷ front_of P at R) (front_of P at R))
+    go true i = inr i
+    go false i = i

@@ -1,7 +1,7 @@
 -- What is wrong with a line of a trace, and which fault is named.
-use Rattle.std.specs.Prelude.{◌≡◌, ℕ, ◌<◌, false, List, ◌⊎◌, Option, Some, None}
+use Rattle.std.specs.Prelude.{◌≡◌, ℕ, ◌<◌, false, List, Option, Some, None}
 use Rattle.q_logic.specs.Prelude.{Literal, Prefix, IsIn, is_bound}
-use Rattle.q_derive.specs.Traces.{Parents, nothing, missing, single, double, IsParent, IsKept, IsShed, IsMerged, IsClash, IsLeaf, AreBound, Stands}
+use Rattle.q_derive.specs.Traces.{Parents, nothing, missing, single, double, IsParent, IsSource, IsKept, IsShed, IsLeaf, AreBound, Stands}
 use Rattle.q_resolve.specs.declared.fault.Fault.{Fault}
 use Rattle.q_resolve.specs.declared.fault.Fault.TheVariants.{Unbound, Missing, NoLeaf, NoPivot, Merged, Lost, Shed}
 
@@ -27,9 +27,9 @@ IsFault P L from T Unbound = (k : Literal) × IsIn k T × (is_bound P k.var ≡ 
 IsFault P L from T Missing = (from ≡ missing) × ¬ IsLeaf P L T
 IsFault P L from T NoLeaf = (from ≡ nothing) × ¬ IsLeaf P L T
 IsFault P L from T NoPivot = HasParents from × ((R : List Literal) → ¬ IsParent P from R)
-IsFault P L from T Merged = HasParents from × (IsMerged P T ⊎ IsClash P from)
-IsFault P L from T Lost = HasParents from × ((R : List Literal) → IsParent P from R → ¬ IsKept P R T)
-IsFault P L from T Shed = HasParents from × ((R : List Literal) → IsParent P from R → IsKept P R T → ¬ IsShed P R T)
+IsFault P L from T Merged = HasParents from × ((R : List Literal) → ¬ IsSource P from T R)
+IsFault P L from T Lost = HasParents from × ((R : List Literal) → IsSource P from T R → ¬ IsKept P R T)
+IsFault P L from T Shed = HasParents from × ((R : List Literal) → IsSource P from T R → IsKept P R T → ¬ IsShed P R T)
 
 -- the fault is there, and none of a lower number
 pub record IsLeastFault (P : Prefix) (L : List Literal → Type 0) (from : Parents) (T : List Literal) (f : Fault) : Type 0 where

@@ -3,7 +3,8 @@ pub mod Seats
 pub mod Tests
 pub mod Leaves
 pub mod Faults
-pub mod Plain
+pub mod Sides
 pub mod Reduced
+pub mod Merging
 pub mod Judged
 pub mod Derived

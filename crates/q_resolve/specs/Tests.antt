@@ -11,6 +11,18 @@ is_other P T k = has (negation k) T && is_existential P k.var
 abbrev pub is_turning : Prefix → List Literal → Literal → Bool
 is_turning P T k = has (negation k) T && not (is_existential P k.var)
 
+-- a literal that is no such one of the owner, or stands behind a place
+abbrev pub is_after : Prefix → List Literal → ℕ → Literal → Bool
+is_after P T at k = not (is_other P T k) || nat_lt at (place P k.var)
+
+-- a literal of the owner whose negation is in T, but that is not in R
+abbrev pub is_anew : Prefix → List Literal → List Literal → Literal → Bool
+is_anew P T R k = is_other P T k && not (has k R)
+
+-- a positive literal of the owner whose negation is in T
+abbrev pub is_both : Prefix → List Literal → Literal → Bool
+is_both P T k = not k.negative && is_other P T k
+
 -- a literal of the opponent that is not in T
 abbrev pub is_gone : Prefix → List Literal → Literal → Bool
 is_gone P T k = not (has k T) && not (is_existential P k.var)

@@ -12,7 +12,8 @@ pub enum Fault {
     NoLeaf,
     /// Two antecedents without a pivot.
     NoPivot,
-    /// Both signs of a variable of the owner: long-distance resolution.
+    /// No pivot stands before each variable of the owner of which the lines hold different signs; or the line holds both signs of one
+    /// of which that from which it follows does not.
     Merged,
     /// A literal of the opponent is gone.
     Lost,

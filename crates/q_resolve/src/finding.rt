@@ -1,7 +1,7 @@
 //! Lines by their numbers: these rise, so halving finds them.
 ghost use Rattle.std.specs.Prelude.{◌≡◌, ◌≤◌, ◌<◌, length};
-ghost use Rattle.q_derive.specs.Traces.{earlier, parents, one, two};
-ghost use Rattle.q_resolve.specs.Judged.{entries_of, sources_of, found_parents, AreBefore};
+ghost use Rattle.q_derive.specs.Traces.{earlier, one, two};
+ghost use Rattle.q_resolve.specs.Judged.{entries_of, sources_of, found_of, AreBefore};
 
 use q_qrp::{Antecedents, Trace};
 
@@ -40,8 +40,7 @@ pub fn find(trace: &Trace, n: usize, number: u32) -> Option<usize>
 
 fn find_both(trace: &Trace, n: usize, first: u32, second: u32) -> Found
     requires { n ≤ length trace.now.lines }
-    ensures same { parents (entries_of trace.now.lines) n (two first second) ≡ found_parents
-        (entries_of trace.now.lines) result }
+    ensures same { result ≡ found_of (entries_of trace.now.lines) n (two first second) }
     ensures before { AreBefore n result }
 {
     match find(trace, n, first) {
@@ -55,8 +54,7 @@ fn find_both(trace: &Trace, n: usize, first: u32, second: u32) -> Found
 
 fn find_one(trace: &Trace, n: usize, first: u32) -> Found
     requires { n ≤ length trace.now.lines }
-    ensures same { parents (entries_of trace.now.lines) n (one first) ≡ found_parents
-        (entries_of trace.now.lines) result }
+    ensures same { result ≡ found_of (entries_of trace.now.lines) n (one first) }
     ensures before { AreBefore n result }
 {
     match find(trace, n, first) {
@@ -68,8 +66,7 @@ fn find_one(trace: &Trace, n: usize, first: u32) -> Found
 /// From what a line follows.
 pub fn sources(trace: &Trace, n: usize, antecedents: Antecedents) -> Found
     requires { n ≤ length trace.now.lines }
-    ensures same { parents (entries_of trace.now.lines) n (sources_of antecedents) ≡ found_parents
-        (entries_of trace.now.lines) result }
+    ensures same { result ≡ found_of (entries_of trace.now.lines) n (sources_of antecedents) }
     ensures before { AreBefore n result }
 {
     match antecedents {

@@ -1,12 +1,12 @@
 //! The judge: the lines of the cone, one after the other, and circuits of what they take away.
-ghost use Rattle.std.specs.Prelude.{◌≡◌, ◌<◌, [], length, slice_get, slice_index_or, false, IfOk};
+ghost use Rattle.std.specs.Prelude.{◌≡◌, ◌<◌, [], length, slice_index_or, false, IfOk};
 ghost use Rattle.q_logic.specs.Prelude.{Distinct, IsFormula};
-ghost use Rattle.q_derive.specs.Traces.{literals_in, IsEnd, IsEndless};
+ghost use Rattle.q_derive.specs.Traces.{IsEnd, IsEndless};
 ghost use Rattle.q_extract.specs.Rows.{drops_in};
-ghost use Rattle.q_resolve.specs.Plain.{ArePlain};
+ghost use Rattle.q_resolve.specs.Merging.{IsReady};
 ghost use Rattle.q_resolve.specs.Seats.{AreSeats};
 ghost use Rattle.q_resolve.specs.Leaves.{prefix_for};
-ghost use Rattle.q_resolve.specs.Judged.{entries_of, parents_at, AreParentsBound, IsLineJudged, AreCone, IsAnswer, IsCertified, IsRefuted, IsRefusal};
+ghost use Rattle.q_resolve.specs.Judged.{entries_of, parents_at, found_at, line_at, AreParentsBound, IsLineJudged, AreCone, IsAnswer, IsCertified, IsRefuted, IsRefusal};
 ghost use Rattle.q_resolve.specs.Derived.{IsConeJudged, IsStood, IsTurn};
 
 use crate::cone::{cone_of, find_end};
@@ -18,7 +18,7 @@ use crate::lines::{Desk, judge_line};
 use crate::marked::Marked;
 use crate::resolving::Away;
 use crate::seats::{exchange, seats_of};
-use q_extract::extract;
+use q_extract::{Sayings, extract};
 use q_logic::{Bound, Formula, NoMemory};
 use q_qrp::Trace;
 use std::alloc::Global;
@@ -34,16 +34,17 @@ fn judge_at(
     n: usize,
 ) -> Result<Option<Fault>, NoMemory>
     requires seats { AreSeats prefix.now seats.now }
-    requires sound { ArePlain desk.old.away.drops }
+    requires ready { IsReady n desk.old.away.drops desk.old.said }
     requires place { n < length trace.now.lines }
     requires bound { AreParentsBound prefix.now (parents_at (entries_of trace.now.lines) n) }
-    ensures { IfOk result (λ fault. IsLineJudged owner prefix.now formula.now.matrix (parents_at
-        (entries_of trace.now.lines) n) (literals_in (slice_get (entries_of trace.now.lines) n))
-        desk.old.away.drops desk.new.away.drops fault) }
+    ensures { IfOk result (λ fault. IsLineJudged owner prefix.now formula.now.matrix (entries_of
+        trace.now.lines) n (found_at (entries_of trace.now.lines) n) (line_at (entries_of
+        trace.now.lines) n) desk.old.away.drops desk.new.away.drops desk.old.said desk.new.said
+        fault) }
 {
     let found = sources(trace, n, trace.row(n).antecedents);
     let term = trace.literals(n);
-    let fault = judge_line(desk, formula, prefix, seats, owner, trace, term, found)?;
+    let fault = judge_line(desk, formula, prefix, seats, owner, trace, term, found, n)?;
     Ok(fault)
 }
 
@@ -69,9 +70,9 @@ fn judge_turn(
     requires place { n < length trace.now.lines }
     requires cone { AreCone (entries_of trace.now.lines) cone.now }
     requires stood { IsStood owner prefix.now formula.now.matrix (entries_of trace.now.lines) n
-        desk.old.away.drops }
+        desk.old.away.drops desk.old.said }
     ensures { IfOk result (λ fault. IsTurn owner prefix.now formula.now.matrix (entries_of
-        trace.now.lines) n desk.new.away.drops fault) }
+        trace.now.lines) n desk.new.away.drops desk.new.said fault) }
 {
     if !is_in(cone, n) {
         return Ok(None);
@@ -91,11 +92,12 @@ fn judge_cone(
     cone: &[bool],
 ) -> Result<Option<Wrong>, NoMemory>
     requires seats { AreSeats prefix.now seats.now }
-    requires sound { ArePlain desk.old.away.drops }
+    requires ready { IsReady 0 desk.old.away.drops desk.old.said }
     requires none { drops_in desk.old.away.drops ≡ [] }
+    requires merges { desk.old.away.drops.merges.items ≡ [] }
     requires cone { AreCone (entries_of trace.now.lines) cone.now }
     ensures { IfOk result (λ found. IsConeJudged owner prefix.now formula.now.matrix (entries_of
-        trace.now.lines) desk.new.away.drops found) }
+        trace.now.lines) desk.new.away.drops desk.new.said found) }
 {
     for n in 0..trace.len() {
         let turn = judge_turn(desk, formula, prefix, seats, owner, trace, cone, n)?;
@@ -109,14 +111,17 @@ fn judge_cone(
 
 fn new_desk(alloc: Global) -> Desk
     ensures own { result.own ≡ [] }
-    ensures sound { ArePlain result.away.drops }
+    ensures ready { IsReady 0 result.away.drops result.said }
     ensures none { drops_in result.away.drops ≡ [] }
+    ensures merges { result.away.drops.merges.items ≡ [] }
 {
     Desk {
         own: Marked::new(alloc),
+        first: Marked::new(alloc),
         second: Marked::new(alloc),
         parent: Marked::new(alloc),
         away: Away::new(alloc),
+        said: Sayings::new(alloc),
     }
 }
 
@@ -209,7 +214,7 @@ fn judge(
     }
 }
 
-/// Skolem functions of a formula, exactly where the trace is a proof by term resolution that it is true; else the first fault.
+/// Skolem functions of a formula, exactly where the trace is a proof by long-distance term resolution that it is true; else the first fault.
 pub fn certify(alloc: Global, formula: &Formula, trace: &Trace) -> Result<Judged, NoMemory>
     ensures { IfOk result (IsCertified formula.now trace.now) }
 {
@@ -217,7 +222,7 @@ pub fn certify(alloc: Global, formula: &Formula, trace: &Trace) -> Result<Judged
     Ok(judged)
 }
 
-/// Herbrand functions of a formula, exactly where the trace is a refutation by Q-resolution; else the first fault.
+/// Herbrand functions of a formula, exactly where the trace is a refutation by long-distance Q-resolution; else the first fault.
 pub fn refute(alloc: Global, formula: &Formula, trace: &Trace) -> Result<Judged, NoMemory>
     ensures { IfOk result (IsRefuted formula.now trace.now) }
 {

@@ -11,6 +11,7 @@ mod lines;
 mod marked;
 mod reducing;
 mod resolving;
+mod saying;
 mod seats;
 mod tests;
 

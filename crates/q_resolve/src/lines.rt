@@ -1,30 +1,41 @@
 //! Whether a line of a trace is right. A resolvent is reduced in its own line; where there are several pivots, one will do.
-ghost use Rattle.std.specs.Prelude.{◌≡◌, ◌↔◌, ◌<◌, ◌≤◌, IfOk, IsTrue, length, slice_get};
-ghost use Rattle.q_logic.specs.Prelude.{IsIn};
-ghost use Rattle.q_derive.specs.Traces.{AreBound, IsLeaf, parents, single, double, literals_in};
-ghost use Rattle.q_resolve.specs.Plain.{ArePlain};
+ghost use Rattle.std.specs.Prelude.{◌≡◌, ◌↔◌, ◌<◌, ℕ, Some, None, IfOk, OnOk, IsTrue, length};
+ghost use Rattle.q_logic.specs.Prelude.{Literal, IsIn};
+ghost use Rattle.q_derive.specs.Traces.{AreBound, IsLeaf};
+ghost use Rattle.q_derive.specs.Testing.{some};
+ghost use Rattle.q_extract.specs.Saying.{said_in};
+ghost use Rattle.q_extract.specs.Rows.{said_next, AreSound};
 ghost use Rattle.q_resolve.specs.Seats.{AreSeats};
 ghost use Rattle.q_resolve.specs.Leaves.{MayStand};
-ghost use Rattle.q_resolve.specs.Judged.{AreParentsBound, entries_of, found_parents, later_of, AreBefore, IsTrial, IsTried, IsLeafJudged, IsInnerJudged, IsLineJudged};
+ghost use Rattle.q_resolve.specs.Tests.{is_anew};
+ghost use Rattle.q_resolve.specs.Merging.{IsReady, IsSaidUpto};
+ghost use Rattle.q_resolve.specs.Judged.{AreParentsBound, entries_of, found_parents, later_of, AreBefore, IsTrial, IsTried, IsDone, IsLeafJudged, IsSingleJudged, IsDoubleJudged, IsLineJudged};
 
 use crate::fault::Fault;
 use crate::finding::Found;
 use crate::leaves::{Owner, may_stand};
 use crate::marked::{Marked, mark};
-use crate::reducing::reduce;
+use crate::reducing::{fault_of, reduce};
 use crate::resolving::{Away, resolve};
-use crate::tests::{are_bound, has_pivot, is_pivot, some_meets};
+use crate::saying::{keep, say_resolved, say_same};
+use crate::tests::{are_bound, is_pivot, may_merge, merges_anew, some_meets};
+use q_extract::Sayings;
 use q_logic::{Bound, Formula, Lit, NoMemory};
 use q_qrp::Trace;
-use std::alloc::Global;
+
+/// What comes of the literals of a line as pivots.
+pub enum Tried {
+    /// The resolvent by this one reduces to the line.
+    Resolved(Lit),
+    /// None will do: the last of their faults.
+    Wrong(Fault),
+}
 
 // One literal of the first line as a pivot.
 fn try_pivot(
-    away: &mut Away,
     parent: &mut Marked,
     prefix: &[Bound],
     seats: &[Option<u64>],
-    owner: Owner,
     own: &Marked,
     marked: &Marked,
     first: &[Lit],
@@ -32,125 +43,219 @@ fn try_pivot(
     pivot: Lit,
 ) -> Result<Option<Fault>, NoMemory>
     requires seats { AreSeats prefix.now seats.now }
-    requires sound { ArePlain away.old.drops }
     requires marked { marked.now ≡ second.now }
     requires first { AreBound prefix.now first.now }
     requires second { AreBound prefix.now second.now }
     requires pivot { IsIn pivot first.now }
-    ensures { IfOk result (λ fault. IsTrial owner prefix.now first.now second.now pivot own.now
-        away.old.drops away.new.drops fault) }
+    ensures { IfOk result (λ fault. IsTrial prefix.now first.now second.now own.now pivot parent.new
+        fault) }
 {
     if !is_pivot(prefix, seats, marked, pivot) {
         return Ok(Some(Fault::NoPivot));
     }
+    if !may_merge(prefix, seats, marked, first, pivot) {
+        return Ok(Some(Fault::Merged));
+    }
     resolve(parent, first, second, pivot)?;
-    let fault = reduce(away, prefix, seats, owner, own, parent.as_slice())?;
-    Ok(fault)
+    if merges_anew(prefix, seats, own, parent, own.as_slice()) {
+        return Ok(Some(Fault::Merged));
+    }
+    Ok(fault_of(prefix, seats, own, parent.as_slice()))
 }
 
 fn later(fault: Fault, found: Fault) -> Fault
     ensures { result ≡ later_of fault found }
 {
-    match found {
-        Fault::Shed => Fault::Shed,
-        _ => fault,
+    if fault.number() < found.number() {
+        return found;
     }
+    fault
 }
 
 // All literals of the first line as pivots, until one will do.
 fn try_pivots(
-    away: &mut Away,
     parent: &mut Marked,
     prefix: &[Bound],
     seats: &[Option<u64>],
-    owner: Owner,
     own: &Marked,
     marked: &Marked,
     first: &[Lit],
     second: &[Lit],
-) -> Result<Option<Fault>, NoMemory>
+) -> Result<Tried, NoMemory>
     requires seats { AreSeats prefix.now seats.now }
-    requires sound { ArePlain away.old.drops }
     requires marked { marked.now ≡ second.now }
     requires first { AreBound prefix.now first.now }
     requires second { AreBound prefix.now second.now }
-    ensures { IfOk result (λ fault. IsTried owner prefix.now first.now second.now own.now
-        away.old.drops away.new.drops fault) }
+    ensures { IfOk result (λ tried. IsTried prefix.now first.now second.now own.now parent.new tried) }
 {
-    let mut fault = Fault::Lost;
+    let mut fault = Fault::NoPivot;
     for k in first {
-        let tried = try_pivot(
-            away, parent, prefix, seats, owner, own, marked, first, second, *k,
-        )?;
+        let tried = try_pivot(parent, prefix, seats, own, marked, first, second, *k)?;
         match tried {
-            None => return Ok(None),
+            None => return Ok(Tried::Resolved(*k)),
             Some(found) => fault = later(fault, found),
         }
     }
-    Ok(Some(fault))
+    Ok(Tried::Wrong(fault))
+}
+
+// What a line says and takes away, which is right.
+fn finish(
+    away: &mut Away,
+    said: &mut Sayings,
+    prefix: &[Bound],
+    seats: &[Option<u64>],
+    owner: Owner,
+    own: &Marked,
+    parent: &[Lit],
+    n: usize,
+) -> Result<(), NoMemory>
+    requires seats { AreSeats prefix.now seats.now }
+    requires sound { AreSound away.old.drops }
+    requires later { (x : ℕ) → said_in said.old n x ≡ None }
+    requires bound { AreBound prefix.now parent.now }
+    ensures { OnOk result (IsDone owner prefix.now parent.now own.now n away.old.drops
+        away.new.drops said.old said.new) }
+{
+    keep(said, &away.drops, prefix, seats, own, n)?;
+    reduce(away, prefix, seats, owner, own, parent)?;
+    Ok(())
+}
+
+// Whether a line holds both signs of a variable of the owner of which its source does not.
+fn merges_more(
+    parent: &mut Marked,
+    prefix: &[Bound],
+    seats: &[Option<u64>],
+    own: &Marked,
+    source: &[Lit],
+) -> Result<bool, NoMemory>
+    requires { AreSeats prefix.now seats.now }
+    ensures { IfOk result (λ found. found ≡ some (λ (k : Literal). is_anew prefix.now own.now
+        source.now k) own.now) }
+{
+    if !some_meets(prefix, seats, own, own.as_slice()) {
+        return Ok(false);
+    }
+    mark(parent, source)?;
+    Ok(merges_anew(prefix, seats, own, parent, own.as_slice()))
 }
 
 // The fault of a line that follows from one other.
 fn judge_single(
     away: &mut Away,
+    said: &mut Sayings,
+    parent: &mut Marked,
     prefix: &[Bound],
     seats: &[Option<u64>],
     owner: Owner,
     own: &Marked,
-    term: &[Lit],
     source: &[Lit],
+    i: usize,
+    n: usize,
 ) -> Result<Option<Fault>, NoMemory>
     requires seats { AreSeats prefix.now seats.now }
-    requires sound { ArePlain away.old.drops }
-    requires own { own.now ≡ term.now }
-    requires bound { AreBound prefix.now term.now }
+    requires ready { IsReady n away.old.drops said.old }
+    requires bound { AreBound prefix.now own.now }
     requires source { AreBound prefix.now source.now }
-    ensures { IfOk result (λ fault. IsInnerJudged owner prefix.now (single source.now) term.now
-        away.old.drops away.new.drops fault) }
+    ensures { IfOk result (λ fault. IsSingleJudged owner prefix.now source.now own.now
+        (said_in said.old i) n away.old.drops away.new.drops said.old said.new fault) }
 {
-    if some_meets(prefix, seats, own, term) {
+    let anew = merges_more(parent, prefix, seats, own, source)?;
+    if anew {
         return Ok(Some(Fault::Merged));
     }
-    let fault = reduce(away, prefix, seats, owner, own, source)?;
-    Ok(fault)
+    match fault_of(prefix, seats, own, source) {
+        Some(fault) => Ok(Some(fault)),
+        None => {
+            say_same(&mut away.drops, said, i, source)?;
+            finish(away, said, prefix, seats, owner, own, source, n)?;
+            Ok(None)
+        }
+    }
+}
+
+// What a resolvent says, by its pivot; its literals are marked, and those of the second line.
+fn say_all(
+    away: &mut Away,
+    said: &Sayings,
+    prefix: &[Bound],
+    seats: &[Option<u64>],
+    owner: Owner,
+    one: &mut Marked,
+    two: &Marked,
+    parent: &Marked,
+    first: &[Lit],
+    i: usize,
+    j: usize,
+    pivot: Lit,
+) -> Result<(), NoMemory>
+    requires seats { AreSeats prefix.now seats.now }
+    requires sound { AreSound away.old.drops }
+    requires fresh { (x : ℕ) → said_next away.old.drops x ≡ None }
+    requires below { (m : ℕ) → (x : ℕ) → (k : ℕ) → said_in said.now m x ≡ Some k
+        → k < length away.old.drops.merges.items }
+    ensures { OnOk result (IsSaidUpto owner prefix.now pivot (said_in said.now i) (said_in said.now j)
+        first.now two.now parent.now parent.now away.old.drops away.new.drops) }
+{
+    if !some_meets(prefix, seats, parent, parent.as_slice()) {
+        return Ok(());
+    }
+    mark(one, first)?;
+    say_resolved(
+        &mut away.drops,
+        said,
+        prefix,
+        seats,
+        owner,
+        i,
+        j,
+        one,
+        two,
+        parent,
+        pivot,
+    )?;
+    Ok(())
 }
 
 // The fault of a line that follows from two.
 fn judge_double(
     away: &mut Away,
+    said: &mut Sayings,
     parent: &mut Marked,
-    marked: &mut Marked,
+    one: &mut Marked,
+    two: &mut Marked,
     prefix: &[Bound],
     seats: &[Option<u64>],
     owner: Owner,
     own: &Marked,
-    term: &[Lit],
     first: &[Lit],
     second: &[Lit],
+    i: usize,
+    j: usize,
+    n: usize,
 ) -> Result<Option<Fault>, NoMemory>
     requires seats { AreSeats prefix.now seats.now }
-    requires sound { ArePlain away.old.drops }
-    requires own { own.now ≡ term.now }
-    requires bound { AreBound prefix.now term.now }
+    requires ready { IsReady n away.old.drops said.old }
+    requires bound { AreBound prefix.now own.now }
     requires first { AreBound prefix.now first.now }
     requires second { AreBound prefix.now second.now }
-    ensures { IfOk result (λ fault. IsInnerJudged owner prefix.now (double first.now second.now)
-        term.now away.old.drops away.new.drops fault) }
+    ensures { IfOk result (λ fault. IsDoubleJudged owner prefix.now first.now second.now own.now
+        (said_in said.old i) (said_in said.old j) n away.old.drops away.new.drops said.old said.new
+        fault) }
 {
-    mark(marked, second)?;
-    if !has_pivot(prefix, seats, marked, first) {
-        return Ok(Some(Fault::NoPivot));
+    mark(two, second)?;
+    let tried = try_pivots(parent, prefix, seats, own, two, first, second)?;
+    match tried {
+        Tried::Wrong(fault) => Ok(Some(fault)),
+        Tried::Resolved(pivot) => {
+            say_all(
+                away, said, prefix, seats, owner, one, two, parent, first, i, j, pivot,
+            )?;
+            finish(away, said, prefix, seats, owner, own, parent.as_slice(), n)?;
+            Ok(None)
+        }
     }
-    if some_meets(prefix, seats, own, term) {
-        return Ok(Some(Fault::Merged));
-    }
-    if some_meets(prefix, seats, marked, first) {
-        return Ok(Some(Fault::Merged));
-    }
-    let fault = try_pivots(
-        away, parent, prefix, seats, owner, own, marked, first, second,
-    )?;
-    Ok(fault)
 }
 
 /// Whether a line stands by itself.
@@ -196,12 +301,14 @@ fn judge_leaf(
 #[derive(Drop)]
 pub struct Desk {
     pub own: Marked,
+    pub first: Marked,
     pub second: Marked,
     pub parent: Marked,
     pub away: Away,
+    pub said: Sayings,
 }
 
-/// The fault of a line, if it has one; else what it takes away is noted.
+/// The fault of a line, if it has one; else what it says and takes away is noted.
 pub fn judge_line(
     desk: &mut Desk,
     formula: &Formula,
@@ -211,13 +318,15 @@ pub fn judge_line(
     trace: &Trace,
     term: &[Lit],
     found: Found,
+    n: usize,
 ) -> Result<Option<Fault>, NoMemory>
     requires seats { AreSeats prefix.now seats.now }
-    requires sound { ArePlain desk.old.away.drops }
+    requires ready { IsReady n desk.old.away.drops desk.old.said }
     requires found { AreBefore (length trace.now.lines) found }
     requires bound { AreParentsBound prefix.now (found_parents (entries_of trace.now.lines) found) }
-    ensures { IfOk result (λ fault. IsLineJudged owner prefix.now formula.now.matrix (found_parents
-        (entries_of trace.now.lines) found) term.now desk.old.away.drops desk.new.away.drops fault) }
+    ensures { IfOk result (λ fault. IsLineJudged owner prefix.now formula.now.matrix (entries_of
+        trace.now.lines) n found term.now desk.old.away.drops desk.new.away.drops desk.old.said
+        desk.new.said fault) }
 {
     if !are_bound(prefix, seats, term) {
         return Ok(Some(Fault::Unbound));
@@ -252,12 +361,15 @@ pub fn judge_line(
             let source = trace.literals(i);
             let fault = judge_single(
                 &mut desk.away,
+                &mut desk.said,
+                &mut desk.parent,
                 prefix,
                 seats,
                 owner,
                 &desk.own,
-                term,
                 source,
+                i,
+                n,
             )?;
             Ok(fault)
         }
@@ -266,15 +378,19 @@ pub fn judge_line(
             let second = trace.literals(j);
             let fault = judge_double(
                 &mut desk.away,
+                &mut desk.said,
                 &mut desk.parent,
+                &mut desk.first,
                 &mut desk.second,
                 prefix,
                 seats,
                 owner,
                 &desk.own,
-                term,
                 first,
                 second,
+                i,
+                j,
+                n,
             )?;
             Ok(fault)
         }

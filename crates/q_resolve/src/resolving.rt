@@ -1,10 +1,10 @@
 //! Resolvents, and what a line keeps and takes away of one.
-ghost use Rattle.std.specs.Prelude.{◌≡◌, ◌++◌, ◌∷◌, [], map, OnOk};
+ghost use Rattle.std.specs.Prelude.{◌≡◌, ◌++◌, ◌∷◌, [], ℕ, None, map, OnOk};
 ghost use Rattle.q_logic.specs.Prelude.{without};
 ghost use Rattle.q_derive.specs.Traces.{resolvent};
 ghost use Rattle.q_long.specs.Decided.{drops_of};
-ghost use Rattle.q_extract.specs.Rows.{drops_in, values_next, AreSound, IsMore};
-ghost use Rattle.q_resolve.specs.Plain.{ArePlain, sided};
+ghost use Rattle.q_extract.specs.Rows.{drops_in, said_next, values_next, AreSound, IsMore};
+ghost use Rattle.q_resolve.specs.Sides.{sided};
 ghost use Rattle.q_resolve.specs.Seats.{AreSeats};
 ghost use Rattle.q_resolve.specs.Reduced.{front_of, back_of, IsJoined, IsSame};
 
@@ -47,8 +47,8 @@ pub fn resolve(row: &mut Marked, first: &[Lit], second: &[Lit], pivot: Lit) -> R
     Ok(())
 }
 
-// A literal as one of a term: a clause is read as the term that says that it is false.
-fn side(owner: Owner, lit: Lit) -> Lit
+/// A literal as one of a term: a clause is read as the term that says that it is false.
+pub fn side(owner: Owner, lit: Lit) -> Lit
     ensures { result ≡ sided owner lit }
 {
     match owner {
@@ -67,8 +67,10 @@ pub struct Away {
 
 impl Away {
     pub fn new(alloc: Global) -> Away
-        ensures sound { ArePlain result.drops }
+        ensures sound { AreSound result.drops }
         ensures none { drops_in result.drops ≡ [] }
+        ensures merges { result.drops.merges.items ≡ [] }
+        ensures said { (x : ℕ) → said_next result.drops x ≡ None }
     {
         Away {
             drops: no_drops(alloc),
@@ -129,9 +131,10 @@ pub fn put_away(
 ) -> Result<(), NoMemory>
     requires seats { AreSeats prefix.now seats.now }
     requires sound { AreSound away.old.drops }
-    ensures { OnOk result (IsMore away.old.drops away.new.drops (drops_of
+    ensures more { OnOk result (IsMore away.old.drops away.new.drops (drops_of
         (values_next away.old.drops (map (sided owner) (back_of prefix.now at parent.now)))
         (values_next away.old.drops (map (sided owner) (front_of prefix.now at parent.now))))) }
+    ensures next { OnOk result ((x : ℕ) → said_next away.new.drops x ≡ None) }
 {
     away.kept.clear();
     push_front(&mut away.kept, prefix, seats, owner, at, parent)?;

@@ -4,7 +4,7 @@ ghost use Rattle.q_logic.specs.Prelude.{Literal, negation, has, is_bound, is_exi
 ghost use Rattle.q_logic.specs.Prefixes.{place};
 ghost use Rattle.q_derive.specs.Testing.{every, some};
 ghost use Rattle.q_resolve.specs.Seats.{AreSeats};
-ghost use Rattle.q_resolve.specs.Tests.{is_gone, is_away, is_front, is_other, is_turning, outermost};
+ghost use Rattle.q_resolve.specs.Tests.{is_gone, is_away, is_front, is_other, is_turning, outermost, is_after as is_after_spec, is_anew as is_anew_spec, is_both as is_both_spec};
 
 use crate::marked::Marked;
 use crate::seats::{is_known, is_owned, seat};
@@ -58,17 +58,77 @@ pub fn is_pivot(prefix: &[Bound], seats: &[Option<u64>], marked: &Marked, lit: L
     !is_owned(prefix, seats, lit)
 }
 
-/// Whether some literal of the opponent does.
-pub fn has_pivot(prefix: &[Bound], seats: &[Option<u64>], marked: &Marked, lits: &[Lit]) -> bool
+// Whether a literal, if it is one of the owner that meets its negation among the marked ones, stands behind the pivot.
+fn is_after(prefix: &[Bound], seats: &[Option<u64>], marked: &Marked, at: u64, lit: Lit) -> bool
     requires { AreSeats prefix.now seats.now }
-    ensures { result ≡ some (λ (k : Literal). is_turning prefix.now marked.now k) lits.now }
+    ensures { result ≡ is_after_spec prefix.now marked.now at lit }
 {
-    for k in lits {
-        if is_pivot(prefix, seats, marked, *k) {
+    if !meets(prefix, seats, marked, lit) {
+        return true;
+    }
+    at < seat(prefix, seats, lit)
+}
+
+/// Whether each one does: whether the pivot may merge.
+pub fn may_merge(
+    prefix: &[Bound],
+    seats: &[Option<u64>],
+    marked: &Marked,
+    first: &[Lit],
+    pivot: Lit,
+) -> bool
+    requires { AreSeats prefix.now seats.now }
+    ensures { result ≡ every (λ (g : Literal). is_after_spec prefix.now marked.now
+        (place prefix.now pivot.var) g) first.now }
+{
+    let at = seat(prefix, seats, pivot);
+    for k in first {
+        if !is_after(prefix, seats, marked, at, *k) {
+            return false;
+        }
+    }
+    true
+}
+
+// Whether a literal of the owner meets its negation in the line, but is not in the parent.
+fn is_anew(prefix: &[Bound], seats: &[Option<u64>], own: &Marked, parent: &Marked, lit: Lit) -> bool
+    requires { AreSeats prefix.now seats.now }
+    ensures { result ≡ is_anew_spec prefix.now own.now parent.now lit }
+{
+    if !meets(prefix, seats, own, lit) {
+        return false;
+    }
+    !parent.has(lit)
+}
+
+/// Whether some literal of the line is such a one.
+pub fn merges_anew(
+    prefix: &[Bound],
+    seats: &[Option<u64>],
+    own: &Marked,
+    parent: &Marked,
+    term: &[Lit],
+) -> bool
+    requires { AreSeats prefix.now seats.now }
+    ensures { result ≡ some (λ (k : Literal). is_anew_spec prefix.now own.now parent.now k) term.now }
+{
+    for k in term {
+        if is_anew(prefix, seats, own, parent, *k) {
             return true;
         }
     }
     false
+}
+
+/// Whether a literal is the positive one of two that the line holds of a variable of the owner.
+pub fn is_both(prefix: &[Bound], seats: &[Option<u64>], marked: &Marked, lit: Lit) -> bool
+    requires { AreSeats prefix.now seats.now }
+    ensures { result ≡ is_both_spec prefix.now marked.now lit }
+{
+    if lit.negative() {
+        return false;
+    }
+    meets(prefix, seats, marked, lit)
 }
 
 // Whether a literal of the opponent is not among the marked ones.

@@ -18,15 +18,17 @@ use Rattle.q_command.specs.declared.status.Status.TheVariants as status
 use Rattle.q_run_disprove.specs.DisprovedLines.{status_of_disproved}
 use Rattle.q_run_disprove.specs.Disproofs.{DisproveFiles, Disproves, LineFails, Says, proof_of, refused_input}
 use Rattle.q_run_disprove.specs.SharedDisproofs.{PartDisproves, PartSays, SaysShared, ShareLineFails, told_by_part}
-use Rattle.q_run_disprove.specs.Readings.{IsStarted, Tells}
+use Rattle.q_run_disprove.specs.Readings.{IsStarted, SaysWith, Tells}
 use Rattle.q_run_disprove.specs.declared.disproved.Disproved.{Disproved}
 use Rattle.q_run_disprove.specs.declared.disproved.Disproved.TheVariants as outcome
+use Rattle.q_run_disprove.specs.declared.form.Form.{Form}
 use Rattle.q_run_disprove.specs.declared.reading.Reading.{Reading}
+use Rattle.q_run_disprove.specs.declared.verdict.Verdict.{Verdict}
 
 -- what is told of a proof behind nothing
-pub told-whole : (w : Disproved) (binary : Bool) (part : Part) (F : PrenexFormula) (r : Reading) (file : List ℕ) → IsStarted binary part F r → Tells w r file →
-    SaysShared (share_of part) w F (proof_of binary file)
-told-whole w binary part F r file s h = h binary (share_of part) F [] s.stands
+pub told-whole : (w : Verdict) (form : Form) (part : Part) (F : PrenexFormula) (r : Reading) (file : List ℕ) → IsStarted form part F r → Tells w r file →
+    SaysWith form.keeps (share_of part) w F (proof_of form.binary file)
+told-whole w form part F r file s h = h form (share_of part) F [] s.stands
 
 pub says-of : (j : Share) (o : Disproved) (n : DisproveFiles) (binary : Bool) (disk : Disk) (F : PrenexFormula) → IsFileOf (bytes_at disk n.input) F →
     SaysShared j o F (proof_of binary (bytes_at disk n.proof)) → PartSays j (told_by_part o) n binary disk
@@ -80,7 +82,7 @@ module _ (j : Share) (w : IsWhole j) where
   whole-of F p k c (inl (at, r, l)) = inl (at, whole-refused j w standard 0 F (steps_of p.steps) at (Some c) r, l)
   whole-of F p k c (inr ((at, r), o)) = inr ((at, whole-refused j w standard 0 F (steps_of p.steps) at None r), o)
 
-  whole-says : (o : Disproved) (n : DisproveFiles) (binary : Bool) (disk : Disk) → PartSays j (told_by_part o) n binary disk → Says o n binary disk
+  pub whole-says : (o : Disproved) (n : DisproveFiles) (binary : Bool) (disk : Disk) → PartSays j (told_by_part o) n binary disk → Says o n binary disk
   whole-says (outcome.False k) n binary disk h =
       record { formula = h.formula; is_input = h.is_input; holds = whole-in j w standard 0 h.formula _ k h.holds }
   whole-says (outcome.RefusedLine k c) n binary disk h =

@@ -25,11 +25,11 @@ refused-not F p at cause r h =
     let n = refutes-number false standard F (steps_of p.steps) h in
     not-both false standard F (steps_of p.steps) n.0 at cause n.1 r
 
-line-not : (k c : ℕ) (F : PrenexFormula) (p : Parsed) → LineFails k c F p → IsRefutation F p → ⊥
+pub line-not : (k c : ℕ) (F : PrenexFormula) (p : Parsed) → LineFails k c F p → IsRefutation F p → ⊥
 line-not k c F p (inl (at, r, l)) h = refused-not F p at (Some c) r h
 line-not k c F p (inr ((at, r), o)) h = refused-not F p at None r h
 
-end-not : (F : PrenexFormula) (p : Parsed) → EndFails F p → IsRefutation F p → ⊥
+pub end-not : (F : PrenexFormula) (p : Parsed) → EndFails F p → IsRefutation F p → ⊥
 end-not F p ((at, r), o) h = refused-not F p at None r h
 
 -- an answer that is due, one that does not come, and one in whose place a fault came
@@ -42,7 +42,7 @@ not-due given s t P e d h = ((λ x. absurd (d (sym e ∙ x))), (λ p. absurd (h 
 pub faulty : (given t : Status) (P : Type 0) → MayCome given → (MayCome t → ⊥) → Exactly given t P
 faulty given t P m d = ((λ x. absurd (d (subst MayCome x m))), (λ p. inr m))
 
-false-stays : MayCome status.False → ⊥
+pub false-stays : MayCome status.False → ⊥
 false-stays (inl a) = cc
 false-stays (inr (inl a)) = cc
 false-stays (inr (inr a)) = cc
@@ -67,7 +67,7 @@ module _ (given : Status) (n : DisproveFiles) (binary : Bool) (before : Disk) (a
       q.holds (subst (λ (F : PrenexFormula). IsRefutation F (proof_of binary (bytes_at before n.proof)))
       (one_formula (bytes_at before n.input) p.formula q.formula p.is_input q.is_input) p.holds)
 
-  is-false : IsDisproof n binary before → InputIsFalse n before
+  pub is-false : IsDisproof n binary before → InputIsFalse n before
   is-false p F f h =
       let e : p.formula ≡ F = one_formula (bytes_at before n.input) p.formula F p.is_input f in
       refutes-false false standard p.formula (steps_of (proof_of binary (bytes_at before n.proof)).steps)

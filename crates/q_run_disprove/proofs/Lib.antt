@@ -1,3 +1,4 @@
+pub mod NotedSteps
 pub mod DisproofSteps
 pub mod DisproofReading
 pub mod DisproveOutcome
@@ -6,3 +7,5 @@ pub mod TakenSteps
 pub mod ProofLines
 pub mod SharedDisproving
 pub mod SharedStatus
+pub mod CertifyOutcome
+pub mod CertifyStatus

@@ -1,5 +1,5 @@
 -- Parts that say `verified` make a proof that is disproved, and where parts refuse, the least line is that of the whole.
-use Rattle.std.proofs.Common.{◌≡◌, ◌⊎◌, ◌≤◌, ◌<◌, ◌+◌, ◌∙◌, inl, inr, refl, sym, subst, arith, ℕ, zero, suc, Bool, false, List, [], ◌∷◌, length, Option, Some, None, sum}
+use Rattle.std.proofs.Common.{◌≡◌, ◌≤◌, ◌<◌, inl, inr, refl, subst, arith, ℕ, zero, suc, Bool, false, List, [], ◌∷◌, length, Option, Some, None, sum}
 use Rattle.q_logic.specs.declared.limits.Limits.{Limits}
 use Rattle.q_logic.specs.Prelude.{PrenexFormula, IsIn, ProofStep, after, standard}
 use Rattle.q_io.specs.Files.{Disk, bytes_at}

@@ -1,12 +1,12 @@
 -- When each status of a part of `disprove` comes.
-use Rattle.std.proofs.Common.{◌≡◌, ◌≢◌, inl, inr, ◌∙◌, sym, subst, ℕ, Bool, Option, None, Some}
+use Rattle.std.proofs.Common.{◌≡◌, inl, inr, subst, ℕ, Bool, Option, None, Some}
 use Rattle.q_logic.specs.Prelude.{PrenexFormula, standard}
 use Rattle.q_io.specs.Files.{Disk, bytes_at}
 use Rattle.q_log.specs.Logs.{Parsed}
 use Rattle.q_shares.specs.Shares.{Share}
 use Rattle.q_refutation.specs.SharedRefutations.{RefusedShared}
 use Rattle.q_refutation.proofs.SharedRefuting.{number-shared, shared-not_both}
-use Rattle.q_command.specs.Checks.{IsNoFormula, MayCome, Exactly}
+use Rattle.q_command.specs.Checks.{IsNoFormula, MayCome}
 use Rattle.q_command.specs.Logs.{steps_of}
 use Rattle.q_command.specs.Parts.{share_of}
 use Rattle.q_command.specs.Sinks.{SinkView, IsDue}

@@ -1,4 +1,10 @@
 pub mod DisprovedLines
 pub mod Disproofs
 pub mod SharedDisproofs
+pub mod Extended
+pub mod Boxed
+pub mod Notes
 pub mod Readings
+pub mod CertifiedLines
+pub mod Certifying
+pub mod Settling

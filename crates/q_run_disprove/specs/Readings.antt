@@ -5,7 +5,7 @@ use Rattle.q_logic.specs.declared.steps.Kind.TheVariants as kind
 use Rattle.q_logic.specs.Prelude.{PrenexFormula, AreAlike, ProofStep, after, standard}
 use Rattle.q_log.specs.declared.error.LogError.{LogError}
 use Rattle.q_log.specs.declared.error.LogError.TheVariants as log
-use Rattle.q_log.specs.Logs.{behind}
+use Rattle.q_log.specs.Logs.{Parsed, behind}
 use Rattle.q_binary.specs.Forms.{left_of, to_come}
 use Rattle.q_judge.specs.declared.error.CheckError.{CheckError}
 use Rattle.q_judge.specs.declared.error.CheckError.TheVariants as check
@@ -17,10 +17,13 @@ use Rattle.q_command.specs.Parts.{share_of}
 use Rattle.q_command.specs.declared.part.Part.{Part}
 use Rattle.q_run_disprove.specs.Disproofs.{proof_of}
 use Rattle.q_run_disprove.specs.SharedDisproofs.{SaysShared}
+use Rattle.q_run_disprove.specs.Notes.{AreAbreast, AreLast, AreNotes, IfFalse, IsNoted, ReachEmpty}
 use Rattle.q_run_disprove.specs.declared.disproved.Disproved.{Disproved}
 use Rattle.q_run_disprove.specs.declared.disproved.Disproved.TheVariants as outcome
+use Rattle.q_run_disprove.specs.declared.form.Form.{Form}
 use Rattle.q_run_disprove.specs.declared.reading.Reading.{Reading}
 use Rattle.q_run_disprove.specs.declared.refuter.Refuter.{Refuter}
+use Rattle.q_run_disprove.specs.declared.verdict.Verdict.{Verdict}
 
 -- a step of this kind may bring the empty clause: one is added, or a clause loses a literal
 abbrev pub may_bring : Kind → Bool
@@ -57,63 +60,85 @@ is_own t = share_of t.part t.steps
 abbrev pub counted : Bool → ℕ → ℕ
 counted own n = cond own (n + 1) n
 
--- the checker has the limits of the program and keeps no undo list, and the empty clause is not there
+-- the checker has the limits of the program and keeps no undo list, the empty clause is not there, and the notes are as far as the steps
 pub record IsUnderWay (t : Refuter) : Type 0 where
   pub limits : t.checker.limits ≡ standard
   pub keeps : t.checker.keeps ≡ false
   pub unlost : ¬ IsLost t.checker.formula
   pub fewer : t.own ≤ t.steps
+  pub abreast : AreAbreast t.part t.checker.formula t.notes
 
 -- no step is made
-pub record IsBegun (part : Part) (F : PrenexFormula) (t : Refuter) : Type 0 where
+pub record IsBegun (keeps : Bool) (part : Part) (F : PrenexFormula) (t : Refuter) : Type 0 where
   pub under_way : IsUnderWay t
   pub alike : AreAlike F t.checker.formula
   pub part_is : t.part ≡ part
   pub none : t.steps ≡ 0
   pub no_own : t.own ≡ 0
+  pub notes : AreNotes keeps F [] t.notes
 
 -- what is said before the first step
-abbrev pub TellsAtOnce : PrenexFormula → Disproved → Type 0
-TellsAtOnce F (outcome.False n) = IsLost F × (n ≡ 0)
-TellsAtOnce F (outcome.RefusedLine n c) = ⊥
-TellsAtOnce F outcome.RefusedEnd = ⊥
-TellsAtOnce F (outcome.RefusedInput n c) = ⊥
-TellsAtOnce F outcome.ReadFault = ⊥
-TellsAtOnce F outcome.NoMemory = Unit {0}
+abbrev pub SaysAtOnce : PrenexFormula → Disproved → Type 0
+SaysAtOnce F (outcome.False n) = IsLost F × (n ≡ 0)
+SaysAtOnce F (outcome.RefusedLine n c) = ⊥
+SaysAtOnce F outcome.RefusedEnd = ⊥
+SaysAtOnce F (outcome.RefusedInput n c) = ⊥
+SaysAtOnce F outcome.ReadFault = ⊥
+SaysAtOnce F outcome.NoMemory = Unit {0}
 
--- one step more is made, and the empty clause is not there
-pub record Goes (s : ProofStep) (old new : Refuter) : Type 0 where
+pub record TellsAtOnce (keeps : Bool) (F : PrenexFormula) (v : Verdict) : Type 0 where
+  pub says : SaysAtOnce F v.outcome
+  pub notes : IfFalse v.outcome (AreNotes keeps F [] v.notes)
+
+-- circuits can be made of the notes, where the formula is said to be false
+abbrev pub IsReady : Verdict → Type 0
+IsReady v = IfFalse v.outcome (ReachEmpty v.notes)
+
+-- one step more, of this line, is made, and the empty clause is not there
+pub record Goes (line : ℕ) (s : ProofStep) (old new : Refuter) : Type 0 where
   pub may : MayBeTaken (is_own old) standard old.checker.formula s
   pub alike : AreAlike (after old.checker.formula s) new.checker.formula
   pub under_way : IsUnderWay new
   pub part : new.part ≡ old.part
   pub steps : new.steps ≡ old.steps + 1
   pub own : new.own ≡ counted (is_own old) old.own
+  pub noted : IsNoted line s old.notes new.notes
 
 -- what is said of the next step: the empty clause comes by it, or it is not taken
-abbrev pub Convicts : Disproved → Refuter → Entry → Type 0
-Convicts (outcome.False n) t e =
+abbrev pub SaysNext : Disproved → Refuter → Entry → Type 0
+SaysNext (outcome.False n) t e =
     MayBeTaken (is_own t) standard t.checker.formula e.1 × IsLost (after t.checker.formula e.1) × (n ≡ counted (is_own t) t.own)
-Convicts (outcome.RefusedLine n c) t e = (n ≡ e.0) × NotTaken (is_own t) standard t.checker.formula e.1 c
-Convicts outcome.RefusedEnd t e = ⊥
-Convicts (outcome.RefusedInput n c) t e = ⊥
-Convicts outcome.ReadFault t e = ⊥
-Convicts outcome.NoMemory t e = Unit {0}
+SaysNext (outcome.RefusedLine n c) t e = (n ≡ e.0) × NotTaken (is_own t) standard t.checker.formula e.1 c
+SaysNext outcome.RefusedEnd t e = ⊥
+SaysNext (outcome.RefusedInput n c) t e = ⊥
+SaysNext outcome.ReadFault t e = ⊥
+SaysNext outcome.NoMemory t e = Unit {0}
+
+-- with its notes, where the empty clause comes
+pub record Convicts (v : Verdict) (t : Refuter) (e : Entry) : Type 0 where
+  pub says : SaysNext v.outcome t e
+  pub noted : IfFalse v.outcome (IsNoted e.0 e.1 t.notes v.notes)
 
 -- what the end of the proof tells: there is no step more, or one, or a line that is none
-abbrev pub Concludes : Result (Option Entry) LogError → Refuter → Disproved → Type 0
-Concludes (Ok None) t w = w ≡ outcome.RefusedEnd
-Concludes (Ok (Some e)) t w = Convicts w t e ⊎ ((w ≡ outcome.RefusedEnd) × ((new : Refuter) × Goes e.1 t new))
-Concludes (Err x) t w = w ≡ log_refused x
+abbrev pub Concludes : Result (Option Entry) LogError → Refuter → Verdict → Type 0
+Concludes (Ok None) t w = w.outcome ≡ outcome.RefusedEnd
+Concludes (Ok (Some e)) t w = Convicts w t e ⊎ ((w.outcome ≡ outcome.RefusedEnd) × ((new : Refuter) × Goes e.0 e.1 t new))
+Concludes (Err x) t w = w.outcome ≡ log_refused x
+
+-- what is told of a formula and a proof, and with which notes
+pub record SaysWith (keeps : Bool) (j : Share) (v : Verdict) (F : PrenexFormula) (p : Parsed) : Type 0 where
+  pub says : SaysShared j v.outcome F p
+  pub notes : IfFalse v.outcome (AreLast keeps j F p v.notes)
 
 -- these steps are made from F on, those of the share were judged, and the empty clause was never there
-pub record IsSoFar (j : Share) (F : PrenexFormula) (es : List Entry) (t : Refuter) : Type 0 where
+pub record IsSoFar (keeps : Bool) (j : Share) (F : PrenexFormula) (es : List Entry) (t : Refuter) : Type 0 where
   pub last : PrenexFormula
   pub share : share_of t.part ≡ j
   pub made : AreTakenUnlost j standard 0 F (steps_of es) last
   pub alike : AreAlike last t.checker.formula
   pub all : t.steps ≡ length es
   pub own : t.own ≡ count j 0 (steps_of es)
+  pub notes : AreNotes keeps F es t.notes
 
 -- there is room to count a step for each byte
 pub record IsOpen (r : Reading) : Type 0 where
@@ -121,21 +146,22 @@ pub record IsOpen (r : Reading) : Type 0 where
   pub room : r.refuter.steps + left_of r.reader ≤ 1099511627776
 
 -- these bytes of the proof are read, all steps in them are made, and those of the share were judged
-pub record Stands (binary : Bool) (j : Share) (F : PrenexFormula) (r : Reading) (bytes : List ℕ) : Type 0 where
+pub record Stands (form : Form) (j : Share) (F : PrenexFormula) (r : Reading) (bytes : List ℕ) : Type 0 where
   pub entries : List Entry
-  pub proof : (rest : List ℕ) → proof_of binary (bytes ++ rest) ≡ behind entries (to_come r.reader rest)
-  pub so_far : IsSoFar j F entries r.refuter
+  pub proof : (rest : List ℕ) → proof_of form.binary (bytes ++ rest) ≡ behind entries (to_come r.reader rest)
+  pub so_far : IsSoFar form.keeps j F entries r.refuter
 
 -- these bytes more are read
 pub record Advances (old new : Reading) (bytes : List ℕ) : Type 0 where
-  pub stands : (binary : Bool) → (j : Share) → (F : PrenexFormula) → (front : List ℕ) → Stands binary j F old front → Stands binary j F new (front ++ bytes)
+  pub stands : (form : Form) → (j : Share) → (F : PrenexFormula) → (front : List ℕ) → Stands form j F old front → Stands form j F new (front ++ bytes)
   pub left : left_of new.reader + length bytes ≡ left_of old.reader
   pub goes_on : IsOpen new
 
 -- it is so of the proof that has these bytes behind those that are read
-abbrev pub Tells : Disproved → Reading → List ℕ → Type 0
-Tells o r bytes =
-    (binary : Bool) → (j : Share) → (F : PrenexFormula) → (front : List ℕ) → Stands binary j F r front → SaysShared j o F (proof_of binary (front ++ bytes))
+abbrev pub Tells : Verdict → Reading → List ℕ → Type 0
+Tells v r bytes =
+    (form : Form) → (j : Share) → (F : PrenexFormula) → (front : List ℕ) → Stands form j F r front →
+    SaysWith form.keeps j v F (proof_of form.binary (front ++ bytes))
 
 -- n bytes of the file were taken, from a place on
 pub record HasTaken (file : List ℕ) (place n : ℕ) (old new : Reading) : Type 0 where
@@ -144,7 +170,7 @@ pub record HasTaken (file : List ℕ) (place n : ℕ) (old new : Reading) : Type
   pub end : n ≡ 0 → length file ≤ place
 
 -- nothing is read yet, and the proof begins with the formula
-pub record IsStarted (binary : Bool) (part : Part) (F : PrenexFormula) (r : Reading) : Type 0 where
-  pub stands : Stands binary (share_of part) F r []
+pub record IsStarted (form : Form) (part : Part) (F : PrenexFormula) (r : Reading) : Type 0 where
+  pub stands : Stands form (share_of part) F r []
   pub left : left_of r.reader ≡ 1099511627776
   pub goes_on : IsOpen r

@@ -35,7 +35,7 @@ impl Disproved {
         }
     }
 
-    fn line(&self) -> Line
+    pub(crate) fn line(&self) -> Line
         ensures { result.bytes ≡ line_of_disproved self.now }
     {
         match *self {

@@ -1,22 +1,25 @@
 // IN is read whole, and PROOF as far as it counts.
-ghost use Rattle.std.specs.Prelude.{◌≡◌, ◌≢◌, IfSome};
+ghost use Rattle.std.specs.Prelude.{◌≡◌, ◌≢◌, IfSome, true};
 ghost use Rattle.q_io.specs.Files.{RoseAmong, RoseFor, bytes_at};
 ghost use Rattle.q_command.specs.Reading.{OnlyReadsFiles};
-ghost use Rattle.q_command.specs.Parts.{share_of};
+ghost use Rattle.q_command.specs.Parts.{IsWhole, share_of};
 ghost use Rattle.q_command.specs.declared.status.Status.TheVariants as status;
 ghost use Rattle.q_run_disprove.specs.DisprovedLines.{status_of_disproved};
 ghost use Rattle.q_run_disprove.specs.Disproofs.{Disproves, files_of, names_read, proof_of, refused_input as input_refused};
-ghost use Rattle.q_run_disprove.specs.SharedDisproofs.{PartDisproves, SaysShared, told_by_part};
+ghost use Rattle.q_run_disprove.specs.Readings.{IsReady, SaysWith};
+ghost use Rattle.q_run_disprove.specs.SharedDisproofs.{PartDisproves, told_by_part};
 
 use crate::disproved::Disproved;
+use crate::form::Form;
 use crate::names::DisproveNames;
 use crate::reading::{Reading, read_proof};
+use crate::verdict::Verdict;
 use q_command::{InputError, PIECE, Part, read_input};
 use q_io::Files;
 use q_logic::Formula;
 use std::alloc::Global;
 
-fn refused_input(error: InputError) -> Disproved
+pub(crate) fn refused_input(error: InputError) -> Disproved
     ensures { result ≡ input_refused error }
 {
     match error {
@@ -26,27 +29,29 @@ fn refused_input(error: InputError) -> Disproved
     }
 }
 
-// What there is to say of a formula and a proof, where steps of the part are judged and counted.
-fn judge<F: Files>(
+/// How the reading of a proof ends that begins with a formula, where steps of the part are judged and counted.
+pub(crate) fn judge<F: Files>(
     alloc: Global,
     files: &mut F,
     name: &str,
     formula: Formula,
-    binary: bool,
+    form: Form,
     part: Part,
-) -> Disproved
+) -> Verdict
+    requires { form.keeps ≡ true → IsWhole (share_of part) }
     ensures says { IfSome (F.held files.old) (λ disk.
-        SaysShared (share_of part) result formula (proof_of binary (bytes_at disk name.now))) }
-    ensures fault { result ≡ Disproved.ReadFault
+        SaysWith form.keeps (share_of part) result formula (proof_of form.binary (bytes_at disk name.now))) }
+    ensures ready { IsReady result }
+    ensures fault { result.outcome ≡ Disproved.ReadFault
         → RoseFor F.read_faults name.now files.old files.new }
     ensures only_reads { OnlyReadsFiles F.Files files.old files.new }
 {
     let Ok(mut room) = vec![in alloc; 0u8; PIECE] else {
-        return Disproved::NoMemory;
+        return Verdict::of(Disproved::NoMemory);
     };
-    match Reading::start(alloc, formula, binary, part) {
+    match Reading::start(alloc, formula, form, part) {
         Ok(reading) => read_proof(files, name, &mut room, reading),
-        Err(outcome) => outcome,
+        Err(verdict) => verdict,
     }
 }
 
@@ -66,10 +71,16 @@ pub(crate) fn disprove_shared<F: Files>(
     ensures write_fault { status_of_disproved result ≢ status.WriteFault }
     ensures held { F.held files.new ≡ F.held files.old }
 {
-    match read_input(alloc, files, names.input) {
-        Ok(formula) => judge(alloc, files, names.proof, formula, binary, part),
-        Err(error) => refused_input(error),
-    }
+    let formula = match read_input(alloc, files, names.input) {
+        Ok(formula) => formula,
+        Err(error) => return refused_input(error),
+    };
+    let form = Form {
+        binary,
+        keeps: false,
+    };
+    let verdict = judge(alloc, files, names.proof, formula, form, part);
+    verdict.outcome
 }
 
 /// What there is to say of `disprove` over the files of these names.

@@ -3,20 +3,31 @@
 //!
 //! `specs/Disproofs` says what an outcome says of the files and when each status comes, `specs/DisprovedLines` what is put. No file
 //! changes. Many can share a proof (`part`, `specs/SharedDisproofs`): each makes all steps and judges those of its own blocks.
+//!
+//! `disprove IN PROOF CERT` writes Herbrand circuits of the formula as well (`certifying`, `specs/Certifying`): while the proof is judged
+//! notes are kept, and CERT is created once the empty clause is there.
 #![tactic(auto)]
 
+mod boxed;
+mod certified;
+mod certifying;
 mod command;
 mod disproved;
 mod disproving;
+mod form;
 mod laws;
 mod names;
+mod notes;
 mod part;
 mod reading;
 mod refuter;
+mod verdict;
 
-pub use command::run;
+pub use certified::Certified;
+pub use certifying::certify_files;
+pub use command::{run, run_certified};
 pub use disproved::Disproved;
 pub use disproving::disprove_files;
 pub use laws::{least_refusals_of_parts_are_those_of_disprove, verified_parts_disprove};
-pub use names::DisproveNames;
+pub use names::{CertifyNames, DisproveNames};
 pub use part::{disprove_part, run_part};

@@ -4,3 +4,11 @@ pub struct DisproveNames<'a> {
     pub input: &'a str,
     pub proof: &'a str,
 }
+
+/// The names of IN, PROOF and CERT.
+#[derive(Clone, Copy)]
+pub struct CertifyNames<'a> {
+    pub input: &'a str,
+    pub proof: &'a str,
+    pub cert: &'a str,
+}

@@ -1,12 +1,15 @@
 // The proof is read once, forward, and no further than to the empty clause: each step is made as soon as it is read.
-ghost use Rattle.std.specs.Prelude.{◌≡◌, ◌≤◌, ◌<◌, ◌+◌, ◌-◌, ◌^◌, List, ℕ, length, take, drop, IfOk, IfErr, OnOk, IfSome, IsErrOf, [], ◌++◌};
+ghost use Rattle.std.specs.Prelude.{◌≡◌, ◌≤◌, ◌<◌, ◌+◌, ◌-◌, ◌^◌, true, List, ℕ, length, take, drop, IfOk, IfErr, OnOk, IfSome, [], ◌++◌};
 ghost use Rattle.q_io.specs.Files.{RoseFor, bytes_at};
 ghost use Rattle.q_command.specs.Reading.{OnlyReadsFiles};
+ghost use Rattle.q_command.specs.Parts.{IsWhole, share_of};
 ghost use Rattle.q_binary.specs.Forms.{left_of};
-ghost use Rattle.q_run_disprove.specs.Readings.{Advances, Concludes, HasTaken, IsOpen, IsStarted, IsUnderWay, Tells, TellsAtOnce, log_refused};
+ghost use Rattle.q_run_disprove.specs.Readings.{Advances, Concludes, HasTaken, IsOpen, IsReady, IsStarted, IsUnderWay, Tells, TellsAtOnce, log_refused};
 
 use crate::disproved::Disproved;
+use crate::form::Form;
 use crate::refuter::Refuter;
+use crate::verdict::Verdict;
 use q_binary::ProofReader;
 use q_command::Part;
 use q_io::{DeviceError, Files};
@@ -21,29 +24,31 @@ pub(crate) struct Reading {
     refuter: Refuter,
 }
 
-fn log_refusal(error: LogError) -> Disproved
-    ensures is { result ≡ log_refused error }
-    ensures fault { result ≡ Disproved.ReadFault → ⊥ }
+fn log_refusal(error: LogError) -> Verdict
+    ensures is { result.outcome ≡ log_refused error }
+    ensures ready { IsReady result }
+    ensures fault { result.outcome ≡ Disproved.ReadFault → ⊥ }
 {
     match error {
-        LogError::BadLine { line } => Disproved::RefusedLine { line, cause: 1 },
-        LogError::Limit { line } => Disproved::RefusedLine { line, cause: 8 },
-        LogError::NoMemory => Disproved::NoMemory,
+        LogError::BadLine { line } => Verdict::of(Disproved::RefusedLine { line, cause: 1 }),
+        LogError::Limit { line } => Verdict::of(Disproved::RefusedLine { line, cause: 8 }),
+        LogError::NoMemory => Verdict::of(Disproved::NoMemory),
     }
 }
 
 // What there is to say by the end of the proof, which may make a step whole.
-fn conclude(refuter: &mut Refuter, end: Result<Option<(u64, Step)>, LogError>) -> Disproved
+fn conclude(refuter: &mut Refuter, end: Result<Option<(u64, Step)>, LogError>) -> Verdict
     requires under_way { IsUnderWay refuter.old }
     requires few { refuter.old.steps < 2 ^ 64 - 1 }
     ensures concludes { Concludes end refuter.old result }
-    ensures fault { result ≡ Disproved.ReadFault → ⊥ }
+    ensures ready { IsReady result }
+    ensures fault { result.outcome ≡ Disproved.ReadFault → ⊥ }
 {
     match end {
-        Ok(None) => Disproved::RefusedEnd,
+        Ok(None) => Verdict::of(Disproved::RefusedEnd),
         Ok(Some((line, step))) => match refuter.take(line, &step) {
-            Ok(()) => Disproved::RefusedEnd,
-            Err(outcome) => outcome,
+            Ok(()) => Verdict::of(Disproved::RefusedEnd),
+            Err(verdict) => verdict,
         },
         Err(error) => log_refusal(error),
     }
@@ -54,32 +59,35 @@ impl Reading {
     pub fn start(
         alloc: Global,
         formula: Formula,
-        binary: bool,
+        form: Form,
         part: Part,
-    ) -> Result<Reading, Disproved>
-        ensures started { IfOk result (IsStarted binary part formula) }
-        ensures lost { IfErr result (TellsAtOnce formula) }
-        ensures fault { IsErrOf result Disproved.ReadFault → ⊥ }
+    ) -> Result<Reading, Verdict>
+        requires { form.keeps ≡ true → IsWhole (share_of part) }
+        ensures started { IfOk result (IsStarted form part formula) }
+        ensures lost { IfErr result (TellsAtOnce form.keeps formula) }
+        ensures ready { IfErr result IsReady }
+        ensures fault { IfErr result (λ v. v.outcome ≡ Disproved.ReadFault → ⊥) }
     {
-        let Ok(reader) = ProofReader::new(alloc, Limits::standard().bytes, binary) else {
-            return Err(Disproved::NoMemory);
+        let Ok(reader) = ProofReader::new(alloc, Limits::standard().bytes, form.binary) else {
+            return Err(Verdict::of(Disproved::NoMemory));
         };
-        match Refuter::start(alloc, &formula, part) {
+        match Refuter::start(alloc, formula, form.keeps, part) {
             Ok(refuter) => Ok(Reading { reader, refuter }),
-            Err(outcome) => Err(outcome),
+            Err(verdict) => Err(verdict),
         }
     }
 
     // Takes some bytes at the front of the piece, and makes the step that the last of them makes whole. The memory of a step
     // serves for the next one.
-    fn take_some(&mut self, piece: &[u8]) -> Result<usize, Disproved>
+    fn take_some(&mut self, piece: &[u8]) -> Result<usize, Verdict>
         requires some { 0 < length piece.now }
         requires goes_on { IsOpen self.old }
         ensures within { IfOk result (λ n. (0 < n) × (n ≤ length piece.now)) }
         ensures ok { IfOk result (λ n. Advances self.old self.new (take n piece.now)) }
-        ensures tells { IfErr result (λ o. (rest : List ℕ) →
-            Tells o self.old (piece.now ++ rest)) }
-        ensures fault { IsErrOf result Disproved.ReadFault → ⊥ }
+        ensures tells { IfErr result (λ v. (rest : List ℕ) →
+            Tells v self.old (piece.now ++ rest)) }
+        ensures ready { IfErr result IsReady }
+        ensures fault { IfErr result (λ v. v.outcome ≡ Disproved.ReadFault → ⊥) }
     {
         match self.reader.next(piece) {
             Ok((count, None)) => Ok(count),
@@ -88,25 +96,26 @@ impl Reading {
                     self.reader.keep(step);
                     Ok(count)
                 }
-                Err(outcome) => Err(outcome),
+                Err(verdict) => Err(verdict),
             },
             Err(error) => Err(log_refusal(error)),
         }
     }
 
     // Takes the bytes of a piece.
-    fn take_piece(&mut self, piece: &[u8]) -> Result<(), Disproved>
+    fn take_piece(&mut self, piece: &[u8]) -> Result<(), Verdict>
         requires { IsOpen self.old }
         ensures ok { OnOk result (Advances self.old self.new piece.now) }
-        ensures tells { IfErr result (λ o. (rest : List ℕ) →
-            Tells o self.old (piece.now ++ rest)) }
-        ensures fault { IsErrOf result Disproved.ReadFault → ⊥ }
+        ensures tells { IfErr result (λ v. (rest : List ℕ) →
+            Tells v self.old (piece.now ++ rest)) }
+        ensures ready { IfErr result IsReady }
+        ensures fault { IfErr result (λ v. v.outcome ≡ Disproved.ReadFault → ⊥) }
     {
         let mut at = 0;
         while at < piece.len() {
             match self.take_some(&piece[at..]) {
                 Ok(count) => at += count,
-                Err(outcome) => return Err(outcome),
+                Err(verdict) => return Err(verdict),
             }
         }
         Ok(())
@@ -119,7 +128,7 @@ impl Reading {
         name: &str,
         at: u64,
         buffer: &mut [u8],
-    ) -> Result<usize, Disproved>
+    ) -> Result<usize, Verdict>
         requires place { at ≤ 1099511627776 }
         requires room { 0 < length buffer.old }
         requires goes_on { IsOpen self.old }
@@ -127,28 +136,30 @@ impl Reading {
         ensures left { IfOk result (λ n. left_of self.new.reader + n ≡ left_of self.old.reader) }
         ensures taken { IfOk result (λ n. IfSome (F.held files.old)
             (λ disk. HasTaken (bytes_at disk name.now) at n self.old self.new)) }
-        ensures tells { IfErr result (λ o. IfSome (F.held files.old)
-            (λ disk. Tells o self.old (drop at (bytes_at disk name.now)))) }
-        ensures fault { IsErrOf result Disproved.ReadFault
-            → RoseFor F.read_faults name.now files.old files.new }
+        ensures tells { IfErr result (λ v. IfSome (F.held files.old)
+            (λ disk. Tells v self.old (drop at (bytes_at disk name.now)))) }
+        ensures ready { IfErr result IsReady }
+        ensures fault { IfErr result (λ v. v.outcome ≡ Disproved.ReadFault
+            → RoseFor F.read_faults name.now files.old files.new) }
         ensures only_reads { OnlyReadsFiles F.Files files.old files.new }
     {
         let count = match files.read(name, at, buffer) {
             Ok(count) => count,
-            Err(DeviceError::Failed) => return Err(Disproved::ReadFault),
-            Err(DeviceError::NoMemory) => return Err(Disproved::NoMemory),
+            Err(DeviceError::Failed) => return Err(Verdict::of(Disproved::ReadFault)),
+            Err(DeviceError::NoMemory) => return Err(Verdict::of(Disproved::NoMemory)),
         };
         match self.take_piece(&buffer[..count]) {
             Ok(()) => Ok(count),
-            Err(outcome) => Err(outcome),
+            Err(verdict) => Err(verdict),
         }
     }
 
     // What there is to say where the proof has come to its end.
-    fn finish(self) -> Disproved
+    fn finish(self) -> Verdict
         requires { IsOpen self }
         ensures tells { Tells result self [] }
-        ensures fault { result ≡ Disproved.ReadFault → ⊥ }
+        ensures ready { IsReady result }
+        ensures fault { result.outcome ≡ Disproved.ReadFault → ⊥ }
     {
         let Reading {
             reader,
@@ -164,13 +175,14 @@ pub(crate) fn read_proof<F: Files>(
     name: &str,
     buffer: &mut [u8],
     mut reading: Reading,
-) -> Disproved
+) -> Verdict
     requires room { 0 < length buffer.old }
     requires goes_on { IsOpen reading }
     requires left { left_of reading.reader ≡ 1099511627776 }
     ensures tells { IfSome (F.held files.old)
         (λ disk. Tells result reading (bytes_at disk name.now)) }
-    ensures fault { result ≡ Disproved.ReadFault
+    ensures ready { IsReady result }
+    ensures fault { result.outcome ≡ Disproved.ReadFault
         → RoseFor F.read_faults name.now files.old files.new }
     ensures only_reads { OnlyReadsFiles F.Files files.old files.new }
 {
@@ -179,7 +191,7 @@ pub(crate) fn read_proof<F: Files>(
         match reading.read_piece(files, name, at, buffer) {
             Ok(0) => return reading.finish(),
             Ok(count) => at += count as u64,
-            Err(outcome) => return outcome,
+            Err(verdict) => return verdict,
         }
     }
 }

@@ -60,11 +60,11 @@ pub record OfFiles (n : ExtractFiles) (disk : Disk) (P : PrenexFormula → Proof
   pub is_trace : IsTraceOf (bytes_at disk n.trace) proof
   pub holds : P formula proof
 
--- the trace says that the formula is true, and proves it by term resolution
+-- the trace says that the formula is true, and proves it by term resolution, maybe long-distance
 abbrev pub ProvesTrue : PrenexFormula → Proof → Type 0
 ProvesTrue F p = (p.verdict ≡ verdict.Sat) × IsTermTrace F (entries_of p.lines)
 
--- the trace says that the formula is false, and refutes it by Q-resolution
+-- the trace says that the formula is false, and refutes it by Q-resolution, maybe long-distance
 abbrev pub ProvesFalse : PrenexFormula → Proof → Type 0
 ProvesFalse F p = (p.verdict ≡ verdict.Unsat) × IsClauseTrace F (entries_of p.lines)
 

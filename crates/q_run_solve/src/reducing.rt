@@ -10,7 +10,7 @@ use q_dimacs::{write, written_within_limits_is_read};
 use q_io::SteadyFiles;
 use q_logic::{Bounds, Formula, NoMemory};
 use q_sched::Guide;
-use q_simplify::{Options, simplify};
+use q_simplify::{Never, Options, simplify};
 use std::alloc::Global;
 
 /// The texts in memory, and what the check of the log gives.
@@ -38,7 +38,17 @@ fn simplify_in_memory(
         bounds: Bounds::usual(),
         budget: None,
     };
-    match simplify(alloc, &mut memory, formula, "OUT", "LOG", &options, guides) {
+    let mut alarm = Never::new();
+    match simplify(
+        alloc,
+        &mut memory,
+        formula,
+        "OUT",
+        "LOG",
+        &options,
+        guides,
+        &mut alarm,
+    ) {
         Ok(_) => Ok(memory),
         Err(_) => Err(NoMemory),
     }

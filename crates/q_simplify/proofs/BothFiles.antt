@@ -1,5 +1,5 @@
 -- The two files together.
-use Rattle.std.proofs.Common.{◌≡◌, ◌≢◌, ◌≤◌, inl, inr, ℕ, List, [], ◌∷◌, arith, refl, sym, ap, ◌∙◌, subst, length, take, append-nil, Option, Some, None, unwrap_or, IfSome}
+use Rattle.std.proofs.Common.{◌≡◌, ◌≢◌, ◌≤◌, ◌-◌, inl, inr, ℕ, List, [], ◌∷◌, arith, refl, sym, ap, ◌∙◌, subst, length, take, append-nil, Option, Some, None, unwrap_or, IfSome}
 use Rattle.std.specs.FinMap as map
 use Rattle.q_logic.specs.Prelude.{PrenexFormula, IsProper, Matrix, Prefix, size_of, measure_of, formula_of, numbered, occurring, swept}
 use Rattle.q_logic.proofs.Common.{Run-justified, settled-nothing}
@@ -8,8 +8,9 @@ use Rattle.q_io.specs.Files.{Disk, HoldsBytes, MayEmpty, MayHoldFront}
 use Rattle.q_log.specs.Texts.{steps_text}
 use Rattle.q_simplify.specs.declared.options.Options.{Options}
 use Rattle.q_simplify.specs.declared.report.Report.{Report}
+use Rattle.q_simplify.specs.Alarms.{AlarmView}
 use Rattle.q_simplify.specs.Logs.{HoldsFront, LeavesLog}
-use Rattle.q_simplify.specs.Results.{IsReport, IsEnoughFor, EndsAs, HoldsRun, LeadsTo, Simplifies, Leaves}
+use Rattle.q_simplify.specs.Results.{IsReport, IsReportUntil, IsEnoughFor, EndsAs, HoldsRun, LeadsTo, Simplifies, SimplifiesUntil, Leaves, with_budget}
 use Rattle.q_logic.specs.declared.rule_bounds.Bounds.{Bounds}
 use Rattle.q_dimacs.specs.Writing.{formula_text}
 use Rattle.q_sched.specs.Settled.{IsSettled, NoneApplies}
@@ -48,6 +49,11 @@ simplifies o F G r on ln before mid after n p i l w =
       log = kept-run F G ln l.disk t.disk (t.others ln (λ e. n (sym e))) l.log;
       others = λ q a b. t.others q a ∙ l.others q b;
     }
+
+-- the same where an alarm may have stopped the run
+pub simplifies-until : (a b : AlarmView) (o : Options) (F G : PrenexFormula) (r : Report) (on ln : List ℕ) (before : Disk) (mid after : Option Disk) → on ≢ ln → IsProper F → IsReportUntil a b o F r G → LeadsTo F G ln before mid → IfSome mid (λ disk. HoldsBytes on (formula_text G) disk after) → SimplifiesUntil a b o F r on ln before after
+simplifies-until a b o F G r on ln before mid after n p (inl i) l w = inl (simplifies o F G r on ln before mid after n p i l w)
+simplifies-until a b o F G r on ln before mid after n p (inr (z, s, i)) l w = inr (z, s, simplifies (with_budget o (r.before - r.after)) F G r on ln before mid after n p i l w)
 
 -- the log could not be created
 pub leaves-not_created : (F : PrenexFormula) (on ln : List ℕ) (before : Disk) (after : Option Disk) → on ≢ ln → MayEmpty ln before after → Leaves F on ln before after

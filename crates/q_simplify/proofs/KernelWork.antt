@@ -1,17 +1,20 @@
 -- The whole work over one kernel.
-use Rattle.std.proofs.Common.{◌≡◌, ◌<◌, ℕ, List, [], ◌∷◌, refl, sym, ap, ◌∙◌, subst, arith, length, inr, unwrap_or, Option, Result, Ok, Err, IfOk}
+use Rattle.std.proofs.Common.{◌≡◌, ◌≤◌, ◌<◌, ◌-◌, ℕ, List, [], ◌∷◌, refl, sym, ap, ◌∙◌, subst, arith, length, inl, inr, unwrap_or, Option, Some, Result, Ok, Err, IfOk}
 use Rattle.q_logic.specs.Prelude.{Matrix, Prefix, PrenexFormula, standard, IsInLimits, IsProper, live, formula_of, measure_of, IsSwept, swept}
+use Rattle.q_logic.specs.declared.rule_bounds.Bounds.{Bounds}
 use Rattle.q_logic.proofs.Common.{sweep-twice, swept-in_limits}
+use Rattle.q_logic.proofs.Measures.{measure-sweep}
 use Rattle.q_io.specs.Files.{Disk, Empties}
 use Rattle.q_kernel.specs.Prelude.{Seen, slots, formula_in, IsSound, IsLed, IsReady}
 use Rattle.q_simplify.specs.declared.options.Options.{Options}
 use Rattle.q_simplify.specs.declared.stop.Stop.{Stop}
 use Rattle.q_simplify.specs.declared.report.Report.{Report}
 use Rattle.q_simplify.specs.declared.report.Ending.{Ending}
+use Rattle.q_simplify.specs.Alarms.{AlarmView}
 use Rattle.q_simplify.specs.Moves.{MovesTo}
-use Rattle.q_simplify.specs.Stops.{TurnsEnd}
+use Rattle.q_simplify.specs.Stops.{IsBelow, TurnsEnd, TurnsEndUntil}
 use Rattle.q_simplify.specs.Logs.{HasLog, LeavesLog}
-use Rattle.q_simplify.specs.Results.{IsReport, EndsAs, ends_as}
+use Rattle.q_simplify.specs.Results.{IsReport, IsReportUntil, EndsAs, ends_as, with_budget}
 use Rattle.q_simplify.proofs.LogFile.{has_log-begin, has_log-led, has_log-left, same-formula}
 use Rattle.q_dimacs.specs.Dimacs.{Dimacs}
 use Rattle.q_dimacs.specs.Writing.{formula_text}
@@ -23,6 +26,11 @@ swept-ready j k e l =
       swept = subst (λ (F : PrenexFormula). IsSwept F) (sym e) (sweep-twice (formula_in j));
       limits = subst (λ (F : PrenexFormula). IsInLimits standard F) (sym e) (swept-in_limits standard (formula_in j) l);
     }
+
+-- a sweep raises no measure
+pub swept-fell : (B : Bounds) (first : ℕ) (j k : Seen) → first ≡ measure_of B (formula_in j) → formula_in k ≡ swept (formula_in j) → measure_of B (formula_in k) ≤ first
+swept-fell B first j k b e =
+    subst (λ (n : ℕ). measure_of B (formula_in k) ≤ n) (sym b) (subst (λ (F : PrenexFormula). measure_of B F ≤ measure_of B (formula_in j)) (sym e) (measure-sweep B (formula_in j)))
 
 -- nothing was done yet
 pub begin-left : (name : List ℕ) (before : Disk) (k : Seen) (held : Option Disk) → k.text ≡ [] → Empties name before held → LeavesLog (formula_in k) name before held
@@ -51,6 +59,20 @@ reports read o F G j k m last r start d s p q w g b a e =
       moves = subst (λ (n : ℕ). MovesTo o.bounds o.budget n (swept F) G) b (subst (λ (H : PrenexFormula). MovesTo o.bounds o.budget r.before H G) start (subst (λ (H : PrenexFormula). MovesTo o.bounds o.budget r.before (formula_in j) H) (sym gk) s.moves));
       readable = read G (subst (λ (H : PrenexFormula). IsProper H) (sym g) w.proper) (subst (λ (H : PrenexFormula). IsInLimits standard H) (sym gk) d.limits);
     }
+
+-- the same where an alarm may have stopped the turns
+pub reports-until : (a b : AlarmView) → ((H : PrenexFormula) → IsProper H → IsInLimits standard H → Dimacs standard (formula_text H) H) → (o : Options) (F G : PrenexFormula) (j k m : Seen) (last : Stop) (r : Report) → formula_in j ≡ swept F → IsReady k → TurnsEndUntil a b last o.bounds o.budget r.before j k → m.prefix ≡ k.prefix → slots m ≡ slots k → IsSound m → G ≡ formula_in m → r.before ≡ measure_of o.bounds F → r.after ≡ measure_of o.bounds (formula_in m) → r.ending ≡ ends_as last G → IsReportUntil a b o F r G
+reports-until a b read o F G j k m last r start d (inl s) p q w g x y e = inl (reports read o F G j k m last r start d s p q w g x y e)
+reports-until a b read o F G j k m last r start d (inr (z, s)) p q w g x y e =
+    let after : measure_of o.bounds (formula_in k) ≡ r.after = ap (λ (H : PrenexFormula). measure_of o.bounds H) (sym (same-formula k m p q)) ∙ sym y in
+    inr (
+      z,
+      record {
+        ending = e ∙ ap (λ (l : Stop). ends_as l G) s.spent;
+        below = subst (λ (n : ℕ). IsBelow (r.before - n) o.budget) after s.below;
+      },
+      reports read (with_budget o (r.before - r.after)) F G j k m last r start d (subst (λ (n : ℕ). TurnsEnd last o.bounds (Some (r.before - n)) r.before j k) after s.turns) p q w g x y e,
+    )
 
 -- the kernel that a formula was made into
 pub started : {E : Type 0} (F : PrenexFormula) (r : Result Seen E) → IfOk r (λ k. k.prefix ≡ F.prefix) → IfOk r (λ k. live (slots k) ≡ F.matrix) → IfOk r (λ k. formula_in k ≡ F)

@@ -1,3 +1,5 @@
+pub mod StoppedRuns
+pub mod AlarmTurns
 pub mod LogFile
 pub mod TurnEffects
 pub mod NumberIndependence

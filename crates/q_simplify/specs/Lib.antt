@@ -1,3 +1,5 @@
+pub mod Alarms
+pub mod AlarmViews
 pub mod Moves
 pub mod Stops
 pub mod Logs

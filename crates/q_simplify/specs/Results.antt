@@ -1,5 +1,5 @@
 -- What simplification leaves: a formula and the log that leads to it.
-use Rattle.std.specs.Prelude.{◌≡◌, ◌≢◌, ◌⊎◌, ◌↔◌, ◌≤◌, ℕ, List, [], ◌∷◌, take, Option, Some, None}
+use Rattle.std.specs.Prelude.{◌≡◌, ◌≢◌, ◌⊎◌, ◌↔◌, ◌≤◌, ◌-◌, ℕ, List, [], ◌∷◌, take, Option, Some, None}
 use Rattle.std.specs.List.{AllByRecursion}
 use Rattle.std.specs.FinMap as map
 use Rattle.q_logic.specs.Prelude.{Matrix, PrenexFormula, standard, measure_of, ProofStep, IsSwept, falsity, swept as sweep_of, Run, Holds}
@@ -15,8 +15,10 @@ use Rattle.q_simplify.specs.declared.stop.Stop.{Stop}
 use Rattle.q_simplify.specs.declared.stop.Stop.TheVariants as stop
 use Rattle.q_sched.specs.Settled.{IsSettled}
 use Rattle.q_sched.specs.Drives.{IsSpentAt}
+use Rattle.q_simplify.specs.Alarms.{AlarmView, Rang}
 use Rattle.q_simplify.specs.Logs.{MayHoldSteps}
 use Rattle.q_simplify.specs.Moves.{MovesTo}
+use Rattle.q_simplify.specs.Stops.{IsBelow}
 
 -- how it ends, by why no further turn comes and by the clauses that are left
 abbrev pub by_clauses : Matrix → Ending
@@ -99,3 +101,24 @@ pub record Leaves (F : PrenexFormula) (output_name log_name : List ℕ) (before 
 abbrev pub IsEnoughFor : Option ℕ → ℕ → Type 0
 IsEnoughFor None first = Unit {0}
 IsEnoughFor (Some budget) first = first ≤ budget
+
+-- these options with another budget
+abbrev pub with_budget : Options → ℕ → Options
+with_budget o budget = record { bounds = o.bounds; budget = Some budget }
+
+-- it says that a budget is spent: the one by which the measure fell, which is smaller than the given one
+pub record IsShort (o : Options) (r : Report) : Type 0 where
+  pub ending : SaysSpent r.ending
+  pub below : IsBelow (r.before - r.after) o.budget
+
+-- there is a budget under which this holds: the given one, or, where the alarm rang, a smaller one that is just spent
+abbrev pub UnderSome : (Options → Type 0) → AlarmView → AlarmView → Options → Report → Type 0
+UnderSome Is before after o r = Is o ⊎ (Rang before after × IsShort o r × Is (with_budget o (r.before - r.after)))
+
+abbrev pub IsReportUntil : AlarmView → AlarmView → Options → PrenexFormula → Report → PrenexFormula → Type 0
+IsReportUntil before after o F r G = UnderSome (λ p. IsReport p F r G) before after o r
+
+-- both files are those of a run that ends by itself, or that an alarm stopped
+abbrev pub SimplifiesUntil : AlarmView → AlarmView → Options → PrenexFormula → Report → List ℕ → List ℕ → Disk → Option Disk → Type 0
+SimplifiesUntil first last o F r output_name log_name before after =
+    UnderSome (λ p. Simplifies p F r output_name log_name before after) first last o r

@@ -4,8 +4,11 @@ ghost use Rattle.q_logic.specs.Prelude.{PrenexFormula, standard, IsInLimits, IsP
 ghost use Rattle.q_io.specs.Files.{Disk, Empties, Later, RoseAmong, RoseFor};
 ghost use Rattle.q_kernel.specs.Prelude.{formula_in, IsReady};
 ghost use Rattle.q_simplify.specs.Logs.{LeavesLog};
-ghost use Rattle.q_simplify.specs.Results.{IsReport, Leaves, LeadsTo, Simplifies, ends_as};
+ghost use Rattle.q_simplify.specs.Results.{IsReportUntil, Leaves, LeadsTo, SimplifiesUntil, ends_as};
+ghost use Rattle.q_simplify.specs.Alarms.{IsHeard, WasAsked};
+ghost use Rattle.q_simplify.specs.AlarmViews.{view_alarm};
 
+use crate::alarm::Alarm;
 use crate::driving::follow;
 use crate::log_file::flush;
 use crate::options::Options;
@@ -54,18 +57,20 @@ struct Reduced {
 }
 
 // Simplifies the formula of a kernel where no step is pending, and writes the log into its file, which is empty.
-fn reduce<F: Files>(
+fn reduce<F: Files, A: Alarm>(
     alloc: Global,
     files: &mut F,
     log: &str,
     kernel: &mut Kernel,
     options: &Options,
     guides: Vec<Box<dyn Guide>>,
+    alarm: &mut A,
 ) -> Result<Reduced, DeviceError>
     requires limits { IsInLimits standard (formula_in kernel.old) }
     requires text { kernel.old.text ≡ [] }
     ensures report { IfOk result (λ r.
-        IsReport options.now (formula_in kernel.old) r.report r.formula) }
+        IsReportUntil (view_alarm A.Alarm alarm.old) (view_alarm A.Alarm alarm.new) options.now
+        (formula_in kernel.old) r.report r.formula) }
     ensures log { IfOk result (λ r. (before : Disk) → Empties log.now before (F.held files.old) →
         LeadsTo (formula_in kernel.old) r.formula log.now before (F.held files.new)) }
     ensures log_left { OnErr result ((before : Disk) → Empties log.now before (F.held files.old) →
@@ -73,10 +78,13 @@ fn reduce<F: Files>(
     ensures cause { IsErrOf result DeviceError.Failed
         → RoseFor F.write_faults log.now files.old files.new }
     ensures later { Later F.read_faults F.write_faults files.old files.new }
+    ensures heard { IsHeard (view_alarm A.Alarm alarm.old) (view_alarm A.Alarm alarm.new) }
+    ensures asked { OnOk result
+        (WasAsked (view_alarm A.Alarm alarm.old) (view_alarm A.Alarm alarm.new)) }
 {
     let before = first_measure(kernel, &options.bounds);
     kernel.sweep()?;
-    let last = follow(files, log, kernel, options, before, guides)?;
+    let last = follow(files, log, kernel, options, before, guides, alarm)?;
     flush(files, log, kernel, 1)?;
     let formula = kernel.formula(alloc)?;
     kernel.sound();
@@ -99,16 +107,19 @@ fn kernel_of(alloc: Global, formula: Formula) -> Result<Kernel, NoMemory>
 }
 
 // The same for a formula, which is let go before the first step.
-fn reduce_formula<F: Files>(
+fn reduce_formula<F: Files, A: Alarm>(
     alloc: Global,
     files: &mut F,
     log: &str,
     formula: Formula,
     options: &Options,
     guides: Vec<Box<dyn Guide>>,
+    alarm: &mut A,
 ) -> Result<Reduced, DeviceError>
     requires limits { IsInLimits standard formula }
-    ensures report { IfOk result (λ r. IsReport options.now formula r.report r.formula) }
+    ensures report { IfOk result (λ r.
+        IsReportUntil (view_alarm A.Alarm alarm.old) (view_alarm A.Alarm alarm.new) options.now
+        formula r.report r.formula) }
     ensures log { IfOk result (λ r. (before : Disk) → Empties log.now before (F.held files.old) →
         LeadsTo formula r.formula log.now before (F.held files.new)) }
     ensures log_left { OnErr result ((before : Disk) → Empties log.now before (F.held files.old) →
@@ -116,15 +127,20 @@ fn reduce_formula<F: Files>(
     ensures cause { IsErrOf result DeviceError.Failed
         → RoseFor F.write_faults log.now files.old files.new }
     ensures later { Later F.read_faults F.write_faults files.old files.new }
+    ensures heard { IsHeard (view_alarm A.Alarm alarm.old) (view_alarm A.Alarm alarm.new) }
+    ensures asked { OnOk result
+        (WasAsked (view_alarm A.Alarm alarm.old) (view_alarm A.Alarm alarm.new)) }
 {
     let mut kernel = kernel_of(alloc, formula)?;
-    reduce(alloc, files, log, &mut kernel, options, guides)
+    reduce(alloc, files, log, &mut kernel, options, guides, alarm)
 }
 
 /// Simplifies the formula by the rules that there are: sweeps it, and takes one target after another until none
-/// applies or the budget is spent. Each change goes into the log, which is written in pieces; the formula that is left
-/// is written behind it, in pieces too. The formula is let go as soon as the kernel has its clauses.
-pub fn simplify<F: Files>(
+/// applies, the budget is spent or the alarm rings, which is asked before each turn. Each change goes into the log, which is written
+/// in pieces; the formula that is left is written behind it, in pieces too. The formula is let go as soon as the kernel has its
+/// clauses. Where the alarm rang, all is as under a budget that is just spent, but where the given one is spent too or no target is
+/// left: then it is as under the given one.
+pub fn simplify<F: Files, A: Alarm>(
     alloc: Global,
     files: &mut F,
     formula: Formula,
@@ -132,20 +148,25 @@ pub fn simplify<F: Files>(
     log: &str,
     options: &Options,
     guides: Vec<Box<dyn Guide>>,
+    alarm: &mut A,
 ) -> Result<Report, DeviceError>
     requires proper { IsProper formula }
     requires limits { IsInLimits standard formula }
     requires names { output.now ≢ log.now }
     ensures report { IfOk result (λ r. IfSome (F.held files.old) (λ before.
-        Simplifies options.now formula r output.now log.now before (F.held files.new))) }
+        SimplifiesUntil (view_alarm A.Alarm alarm.old) (view_alarm A.Alarm alarm.new) options.now
+        formula r output.now log.now before (F.held files.new))) }
     ensures left { OnErr result (IfSome (F.held files.old) (λ before.
         Leaves formula output.now log.now before (F.held files.new))) }
     ensures cause { IsErrOf result DeviceError.Failed →
         RoseAmong F.write_faults (output.now ∷ log.now ∷ []) files.old files.new }
     ensures later { Later F.read_faults F.write_faults files.old files.new }
+    ensures heard { IsHeard (view_alarm A.Alarm alarm.old) (view_alarm A.Alarm alarm.new) }
+    ensures asked { OnOk result
+        (WasAsked (view_alarm A.Alarm alarm.old) (view_alarm A.Alarm alarm.new)) }
 {
     files.create(log)?;
-    let reduced = reduce_formula(alloc, files, log, formula, options, guides)?;
+    let reduced = reduce_formula(alloc, files, log, formula, options, guides, alarm)?;
     write_output(alloc, files, output, &reduced.formula)?;
     Ok(reduced.report)
 }

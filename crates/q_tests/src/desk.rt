@@ -1,9 +1,11 @@
 // Files by name, and commands over them.
+use crate::alarm::RowAlarm;
 use crate::guides::guide_of;
 use crate::notation::compare;
 use crate::trickle::Trickle;
 use crate::trouble::Trouble;
 use q_app::{Status, run};
+use q_guides::Unextended;
 use q_io::{Call, Fault, Files, MemFiles, MemSink, Sink, SteadyFiles, SteadySink};
 use q_sched::Guide;
 use std::alloc::Global;
@@ -26,6 +28,10 @@ pub struct Desk {
     failing_puts: Vec<u64>,
     is_alone: bool,
     guides: Vec<String>,
+    // the turn before which alarms ring
+    turn: Option<u64>,
+    // that of the last command over memory
+    alarm: RowAlarm,
 }
 
 impl Desk {
@@ -40,6 +46,8 @@ impl Desk {
             failing_puts: Vec::new(alloc),
             is_alone: false,
             guides: Vec::new(alloc),
+            turn: None,
+            alarm: RowAlarm::new(None),
         }
     }
 
@@ -79,6 +87,16 @@ impl Desk {
         Ok(())
     }
 
+    /// From now on the alarm of each command rings before this turn.
+    pub(crate) fn ring(&mut self, turn: u64) {
+        self.turn = Some(turn);
+    }
+
+    /// What the alarm of the last command over memory says.
+    pub(crate) fn alarm(&self) -> Result<String, Trouble> {
+        self.alarm.text(self.alloc)
+    }
+
     /// Runs a command on each device that serves; all say the same.
     pub(crate) fn run(&mut self, words: &[String]) -> Result<Said, Trouble> {
         let said = self.run_in_memory(words)?;
@@ -94,21 +112,46 @@ impl Desk {
         for nth in &self.failing_puts {
             out.fail_at(*nth)?;
         }
-        let status = guided(self.alloc, words, &self.guides, &mut self.memory, &mut out)?;
+        let mut alarm = RowAlarm::new(self.turn);
+        let status = guided(
+            self.alloc,
+            words,
+            &self.guides,
+            &mut self.memory,
+            &mut out,
+            &mut alarm,
+        )?;
+        self.alarm = alarm;
         let line = Vec::from_slice(self.alloc, out.bytes())?;
         Ok(Said { status, line })
     }
 
     fn run_steadily(&mut self, words: &[String], said: &Said) -> Result<(), Trouble> {
         let mut out = SteadySink::new(self.alloc);
-        let status = guided(self.alloc, words, &self.guides, &mut self.steady, &mut out)?;
+        let mut alarm = RowAlarm::new(self.turn);
+        let status = guided(
+            self.alloc,
+            words,
+            &self.guides,
+            &mut self.steady,
+            &mut out,
+            &mut alarm,
+        )?;
         compare(self.alloc, &said.line, out.bytes())?;
         compare(self.alloc, &[said.status.code()], &[status.code()])
     }
 
     fn run_trickling(&mut self, words: &[String], said: &Said) -> Result<(), Trouble> {
         let mut out = MemSink::new(self.alloc);
-        let status = guided(self.alloc, words, &self.guides, &mut self.trickle, &mut out)?;
+        let mut alarm = RowAlarm::new(self.turn);
+        let status = guided(
+            self.alloc,
+            words,
+            &self.guides,
+            &mut self.trickle,
+            &mut out,
+            &mut alarm,
+        )?;
         compare(self.alloc, &said.line, out.bytes())?;
         compare(self.alloc, &[said.status.code()], &[status.code()])
     }
@@ -126,18 +169,22 @@ impl Desk {
     }
 }
 
-// Runs a command with guides that are made for it.
+// Runs a command with guides that are made for it: `GUIDE`, or `unextended GUIDE`.
 fn guided<F: Files, S: Sink>(
     alloc: Global,
     words: &[String],
     guides: &[String],
     files: &mut F,
     out: &mut S,
+    alarm: &mut RowAlarm,
 ) -> Result<Status, Trouble> {
     let mut boxes: Vec<Box<dyn Guide>> = Vec::new(alloc);
     for guide in guides {
-        let boxed: Box<dyn Guide> = Box::new(alloc, guide_of(alloc, guide.as_str())?)?;
+        let boxed: Box<dyn Guide> = match guide.as_str().strip_prefix("unextended ") {
+            Some(rest) => Box::new(alloc, Unextended::new(guide_of(alloc, rest)?))?,
+            None => Box::new(alloc, guide_of(alloc, guide.as_str())?)?,
+        };
         boxes.push(boxed)?;
     }
-    Ok(run(alloc, words, files, out, boxes))
+    Ok(run(alloc, words, files, out, boxes, alarm))
 }

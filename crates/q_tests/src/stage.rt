@@ -60,6 +60,7 @@ impl Stage {
             "memory" => self.desk.stand_alone(),
             "guide" => self.desk.guide(1, rest)?,
             "guides" => self.guides(rest)?,
+            "ring" => self.desk.ring(u64::from(number(rest)?)),
             _ => self.put(first, rest)?,
         }
         Ok(())
@@ -137,6 +138,7 @@ impl Stage {
         match verb {
             "run" => self.run(rest, wanted),
             "show" => self.show(rest, wanted),
+            "alarm" => self.alarm(wanted),
             "read" | "log" => self.read(verb, rest, wanted),
             "steps" | "undo" => self.check(verb, rest, wanted),
             _ => self.apply(verb, rest, wanted),
@@ -184,6 +186,12 @@ impl Stage {
         let wanted = self.text(wanted)?;
         let got = self.held(name)?;
         compare(self.alloc, &wanted, &got)
+    }
+
+    // How often the alarm of the last command was asked and rang, and what it was set to.
+    fn alarm(&self, wanted: &str) -> Result<(), Trouble> {
+        let got = self.desk.alarm()?;
+        compare(self.alloc, wanted.as_bytes(), got.as_bytes())
     }
 
     fn read(&mut self, verb: &str, text: &str, wanted: &str) -> Result<(), Trouble> {

@@ -1,66 +1,107 @@
-use Rattle.std.proofs.Common.{sym, subst}
-use Rattle.q_command.specs.Devices.{devices}
-use Rattle.q_app.specs.declared.words.Command.{Command as Parsed}
-use Rattle.q_app.specs.Says.{InTurn}
+use Rattle.std.proofs.Common.{ap}
+use Rattle.q_simplify.specs.AlarmViews.{view_alarm}
 use Rattle.q_app.specs.Commands.{commands_of}
+use Rattle.q_app.proofs.StoppedRequests.{alarm-heard, alarm-left, as-asked, simplifies-so}
 use Rattle.q_app.proofs.top.run_command.Goals as goal
 
-pub returns-in-Check : goal.returns-in-Check
-returns-in-Check g c =
-    subst (λ (k : Parsed). InTurn (commands_of k) (devices g.F.Files g.S.Sink c.args.files.now c.args.out.now) c.run_check.result (devices g.F.Files g.S.Sink c.run_check.new.files c.run_check.new.out)) (sym c.in-Check.is) c.run_check.ensures.runs
+pub returns-in-Check-clause-does : goal.returns-in-Check-clause-does
+returns-in-Check-clause-does g c = as-asked (view_alarm g.A.Alarm c.args.alarm.now) (view_alarm g.A.Alarm c.args.alarm.now) _ _ _ c.args.command _ c.in-Check.is c.run_check.ensures.runs
 
-pub returns-in-Share : goal.returns-in-Share
-returns-in-Share g c =
-    subst (λ (k : Parsed). InTurn (commands_of k) (devices g.F.Files g.S.Sink c.args.files.now c.args.out.now) c.run_share.result (devices g.F.Files g.S.Sink c.run_share.new.files c.run_share.new.out)) (sym c.in-Share.is) c.run_share.ensures
+pub returns-in-Check-clause-alarm : goal.returns-in-Check-clause-alarm
+returns-in-Check-clause-alarm g c = alarm-left _ _ _ c.args.command _ c.in-Check.is tt _
 
-pub returns-in-Simplify : goal.returns-in-Simplify
-returns-in-Simplify g c =
-    subst (λ (k : Parsed). InTurn (commands_of k) (devices g.F.Files g.S.Sink c.args.files.now c.args.out.now) c.run_simplify.result (devices g.F.Files g.S.Sink c.run_simplify.new.files c.run_simplify.new.out)) (sym c.in-Simplify.is) c.run_simplify.ensures.runs
+pub returns-in-Share-clause-does : goal.returns-in-Share-clause-does
+returns-in-Share-clause-does g c = as-asked (view_alarm g.A.Alarm c.args.alarm.now) (view_alarm g.A.Alarm c.args.alarm.now) _ _ _ c.args.command _ c.in-Share.is c.run_share.ensures
 
-pub returns-in-Rebuild : goal.returns-in-Rebuild
-returns-in-Rebuild g c =
-    subst (λ (k : Parsed). InTurn (commands_of k) (devices g.F.Files g.S.Sink c.args.files.now c.args.out.now) c.run_rebuild.result (devices g.F.Files g.S.Sink c.run_rebuild.new.files c.run_rebuild.new.out)) (sym c.in-Rebuild.is) c.run_rebuild.ensures
+pub returns-in-Share-clause-alarm : goal.returns-in-Share-clause-alarm
+returns-in-Share-clause-alarm g c = alarm-left _ _ _ c.args.command _ c.in-Share.is tt _
 
-pub returns-in-Generate : goal.returns-in-Generate
-returns-in-Generate g c =
-    subst (λ (k : Parsed). InTurn (commands_of k) (devices g.F.Files g.S.Sink c.args.files.now c.args.out.now) c.run_generate.result (devices g.F.Files g.S.Sink c.run_generate.new.files c.run_generate.new.out)) (sym c.in-Generate.is) c.run_generate.ensures.runs
+pub returns-in-Simplify-clause-does : goal.returns-in-Simplify-clause-does
+returns-in-Simplify-clause-does g c = simplifies-so (view_alarm g.A.Alarm c.args.alarm.now) (view_alarm g.A.Alarm c.run_simplify.new.alarm) _ _ _ c.args.command _ _ (ap commands_of c.in-Simplify.is) c.run_simplify.ensures.runs
 
-pub returns-in-Validate : goal.returns-in-Validate
-returns-in-Validate g c =
-    subst (λ (k : Parsed). InTurn (commands_of k) (devices g.F.Files g.S.Sink c.args.files.now c.args.out.now) c.run.result (devices g.F.Files g.S.Sink c.run.new.files c.run.new.out)) (sym c.in-Validate.is) c.run.ensures
+pub returns-in-Simplify-clause-alarm : goal.returns-in-Simplify-clause-alarm
+returns-in-Simplify-clause-alarm g c = alarm-heard _ _ _ c.args.command _ _ (ap commands_of c.in-Simplify.is) _ _ c.run_simplify.ensures.alarm
 
-pub returns-in-Refute : goal.returns-in-Refute
-returns-in-Refute g c =
-    subst (λ (k : Parsed). InTurn (commands_of k) (devices g.F.Files g.S.Sink c.args.files.now c.args.out.now) c.run-in-Refute.result (devices g.F.Files g.S.Sink c.run-in-Refute.new.files c.run-in-Refute.new.out)) (sym c.in-Refute.is) c.run-in-Refute.ensures
+pub returns-in-Rebuild-clause-does : goal.returns-in-Rebuild-clause-does
+returns-in-Rebuild-clause-does g c = as-asked (view_alarm g.A.Alarm c.args.alarm.now) (view_alarm g.A.Alarm c.args.alarm.now) _ _ _ c.args.command _ c.in-Rebuild.is c.run_rebuild.ensures
 
-pub returns-in-Annotate : goal.returns-in-Annotate
-returns-in-Annotate g c =
-    subst (λ (k : Parsed). InTurn (commands_of k) (devices g.F.Files g.S.Sink c.args.files.now c.args.out.now) c.run-in-Annotate.result (devices g.F.Files g.S.Sink c.run-in-Annotate.new.files c.run-in-Annotate.new.out)) (sym c.in-Annotate.is) c.run-in-Annotate.ensures
+pub returns-in-Rebuild-clause-alarm : goal.returns-in-Rebuild-clause-alarm
+returns-in-Rebuild-clause-alarm g c = alarm-left _ _ _ c.args.command _ c.in-Rebuild.is tt _
 
-pub returns-in-AnnotateShare : goal.returns-in-AnnotateShare
-returns-in-AnnotateShare g c =
-    subst (λ (k : Parsed). InTurn (commands_of k) (devices g.F.Files g.S.Sink c.args.files.now c.args.out.now) c.run_part.result (devices g.F.Files g.S.Sink c.run_part.new.files c.run_part.new.out)) (sym c.in-AnnotateShare.is) c.run_part.ensures
+pub returns-in-Generate-clause-does : goal.returns-in-Generate-clause-does
+returns-in-Generate-clause-does g c = as-asked (view_alarm g.A.Alarm c.args.alarm.now) (view_alarm g.A.Alarm c.args.alarm.now) _ _ _ c.args.command _ c.in-Generate.is c.run_generate.ensures.runs
 
-pub returns-in-Solve : goal.returns-in-Solve
-returns-in-Solve g c =
-    subst (λ (k : Parsed). InTurn (commands_of k) (devices g.F.Files g.S.Sink c.args.files.now c.args.out.now) c.run-in-Solve.result (devices g.F.Files g.S.Sink c.run-in-Solve.new.files c.run-in-Solve.new.out)) (sym c.in-Solve.is) c.run-in-Solve.ensures
+pub returns-in-Generate-clause-alarm : goal.returns-in-Generate-clause-alarm
+returns-in-Generate-clause-alarm g c = alarm-left _ _ _ c.args.command _ c.in-Generate.is tt _
 
-pub returns-in-Extract : goal.returns-in-Extract
-returns-in-Extract g c =
-    subst (λ (k : Parsed). InTurn (commands_of k) (devices g.F.Files g.S.Sink c.args.files.now c.args.out.now) c.run-in-Extract.result (devices g.F.Files g.S.Sink c.run-in-Extract.new.files c.run-in-Extract.new.out)) (sym c.in-Extract.is) c.run-in-Extract.ensures
+pub returns-in-Validate-clause-does : goal.returns-in-Validate-clause-does
+returns-in-Validate-clause-does g c = as-asked (view_alarm g.A.Alarm c.args.alarm.now) (view_alarm g.A.Alarm c.args.alarm.now) _ _ _ c.args.command _ c.in-Validate.is c.run.ensures
 
-pub returns-in-Miter : goal.returns-in-Miter
-returns-in-Miter g c =
-    subst (λ (k : Parsed). InTurn (commands_of k) (devices g.F.Files g.S.Sink c.args.files.now c.args.out.now) c.run-in-Miter.result (devices g.F.Files g.S.Sink c.run-in-Miter.new.files c.run-in-Miter.new.out)) (sym c.in-Miter.is) c.run-in-Miter.ensures
+pub returns-in-Validate-clause-alarm : goal.returns-in-Validate-clause-alarm
+returns-in-Validate-clause-alarm g c = alarm-left _ _ _ c.args.command _ c.in-Validate.is tt _
 
-pub returns-in-Disprove : goal.returns-in-Disprove
-returns-in-Disprove g c =
-    subst (λ (k : Parsed). InTurn (commands_of k) (devices g.F.Files g.S.Sink c.args.files.now c.args.out.now) c.run-in-Disprove.result (devices g.F.Files g.S.Sink c.run-in-Disprove.new.files c.run-in-Disprove.new.out)) (sym c.in-Disprove.is) c.run-in-Disprove.ensures
+pub returns-in-Refute-clause-does : goal.returns-in-Refute-clause-does
+returns-in-Refute-clause-does g c = as-asked (view_alarm g.A.Alarm c.args.alarm.now) (view_alarm g.A.Alarm c.args.alarm.now) _ _ _ c.args.command _ c.in-Refute.is c.run-in-Refute.ensures
 
-pub returns-in-DisproveShare : goal.returns-in-DisproveShare
-returns-in-DisproveShare g c =
-    subst (λ (k : Parsed). InTurn (commands_of k) (devices g.F.Files g.S.Sink c.args.files.now c.args.out.now) c.run_part-in-DisproveShare.result (devices g.F.Files g.S.Sink c.run_part-in-DisproveShare.new.files c.run_part-in-DisproveShare.new.out)) (sym c.in-DisproveShare.is) c.run_part-in-DisproveShare.ensures
+pub returns-in-Refute-clause-alarm : goal.returns-in-Refute-clause-alarm
+returns-in-Refute-clause-alarm g c = alarm-left _ _ _ c.args.command _ c.in-Refute.is tt _
 
-pub returns-in-Demo : goal.returns-in-Demo
-returns-in-Demo g c =
-    subst (λ (k : Parsed). InTurn (commands_of k) (devices g.F.Files g.S.Sink c.args.files.now c.args.out.now) c.run_demo.result (devices g.F.Files g.S.Sink c.run_demo.new.files c.run_demo.new.out)) (sym c.in-Demo.is) c.run_demo.ensures
+pub returns-in-Annotate-clause-does : goal.returns-in-Annotate-clause-does
+returns-in-Annotate-clause-does g c = as-asked (view_alarm g.A.Alarm c.args.alarm.now) (view_alarm g.A.Alarm c.args.alarm.now) _ _ _ c.args.command _ c.in-Annotate.is c.run-in-Annotate.ensures
+
+pub returns-in-Annotate-clause-alarm : goal.returns-in-Annotate-clause-alarm
+returns-in-Annotate-clause-alarm g c = alarm-left _ _ _ c.args.command _ c.in-Annotate.is tt _
+
+pub returns-in-AnnotateShare-clause-does : goal.returns-in-AnnotateShare-clause-does
+returns-in-AnnotateShare-clause-does g c = as-asked (view_alarm g.A.Alarm c.args.alarm.now) (view_alarm g.A.Alarm c.args.alarm.now) _ _ _ c.args.command _ c.in-AnnotateShare.is c.run_part.ensures
+
+pub returns-in-AnnotateShare-clause-alarm : goal.returns-in-AnnotateShare-clause-alarm
+returns-in-AnnotateShare-clause-alarm g c = alarm-left _ _ _ c.args.command _ c.in-AnnotateShare.is tt _
+
+pub returns-in-Solve-clause-does : goal.returns-in-Solve-clause-does
+returns-in-Solve-clause-does g c = as-asked (view_alarm g.A.Alarm c.args.alarm.now) (view_alarm g.A.Alarm c.args.alarm.now) _ _ _ c.args.command _ c.in-Solve.is c.run-in-Solve.ensures
+
+pub returns-in-Solve-clause-alarm : goal.returns-in-Solve-clause-alarm
+returns-in-Solve-clause-alarm g c = alarm-left _ _ _ c.args.command _ c.in-Solve.is tt _
+
+pub returns-in-Extract-clause-does : goal.returns-in-Extract-clause-does
+returns-in-Extract-clause-does g c = as-asked (view_alarm g.A.Alarm c.args.alarm.now) (view_alarm g.A.Alarm c.args.alarm.now) _ _ _ c.args.command _ c.in-Extract.is c.run-in-Extract.ensures
+
+pub returns-in-Extract-clause-alarm : goal.returns-in-Extract-clause-alarm
+returns-in-Extract-clause-alarm g c = alarm-left _ _ _ c.args.command _ c.in-Extract.is tt _
+
+pub returns-in-Miter-clause-does : goal.returns-in-Miter-clause-does
+returns-in-Miter-clause-does g c = as-asked (view_alarm g.A.Alarm c.args.alarm.now) (view_alarm g.A.Alarm c.args.alarm.now) _ _ _ c.args.command _ c.in-Miter.is c.run-in-Miter.ensures
+
+pub returns-in-Miter-clause-alarm : goal.returns-in-Miter-clause-alarm
+returns-in-Miter-clause-alarm g c = alarm-left _ _ _ c.args.command _ c.in-Miter.is tt _
+
+pub returns-in-Disprove-clause-does : goal.returns-in-Disprove-clause-does
+returns-in-Disprove-clause-does g c = as-asked (view_alarm g.A.Alarm c.args.alarm.now) (view_alarm g.A.Alarm c.args.alarm.now) _ _ _ c.args.command _ c.in-Disprove.is c.run-in-Disprove.ensures
+
+pub returns-in-Disprove-clause-alarm : goal.returns-in-Disprove-clause-alarm
+returns-in-Disprove-clause-alarm g c = alarm-left _ _ _ c.args.command _ c.in-Disprove.is tt _
+
+pub returns-in-DisproveShare-clause-does : goal.returns-in-DisproveShare-clause-does
+returns-in-DisproveShare-clause-does g c = as-asked (view_alarm g.A.Alarm c.args.alarm.now) (view_alarm g.A.Alarm c.args.alarm.now) _ _ _ c.args.command _ c.in-DisproveShare.is c.run_part-in-DisproveShare.ensures
+
+pub returns-in-DisproveShare-clause-alarm : goal.returns-in-DisproveShare-clause-alarm
+returns-in-DisproveShare-clause-alarm g c = alarm-left _ _ _ c.args.command _ c.in-DisproveShare.is tt _
+
+pub returns-in-Certify-clause-does : goal.returns-in-Certify-clause-does
+returns-in-Certify-clause-does g c = as-asked (view_alarm g.A.Alarm c.args.alarm.now) (view_alarm g.A.Alarm c.args.alarm.now) _ _ _ c.args.command _ c.in-Certify.is c.run_certified.ensures
+
+pub returns-in-Certify-clause-alarm : goal.returns-in-Certify-clause-alarm
+returns-in-Certify-clause-alarm g c = alarm-left _ _ _ c.args.command _ c.in-Certify.is tt _
+
+pub returns-in-Apply-clause-does : goal.returns-in-Apply-clause-does
+returns-in-Apply-clause-does g c = as-asked (view_alarm g.A.Alarm c.args.alarm.now) (view_alarm g.A.Alarm c.args.alarm.now) _ _ _ c.args.command _ c.in-Apply.is c.run-in-Apply.ensures
+
+pub returns-in-Apply-clause-alarm : goal.returns-in-Apply-clause-alarm
+returns-in-Apply-clause-alarm g c = alarm-left _ _ _ c.args.command _ c.in-Apply.is tt _
+
+pub returns-in-Demo-clause-does : goal.returns-in-Demo-clause-does
+returns-in-Demo-clause-does g c = as-asked (view_alarm g.A.Alarm c.args.alarm.now) (view_alarm g.A.Alarm c.args.alarm.now) _ _ _ c.args.command _ c.in-Demo.is c.run_demo.ensures
+
+pub returns-in-Demo-clause-alarm : goal.returns-in-Demo-clause-alarm
+returns-in-Demo-clause-alarm g c = alarm-left _ _ _ c.args.command _ c.in-Demo.is tt _

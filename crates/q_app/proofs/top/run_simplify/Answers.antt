@@ -1,19 +1,38 @@
+use Rattle.std.proofs.Common.{IfSome}
 use Rattle.q_command.specs.Names.{three_of}
+use Rattle.q_simplify.specs.AlarmViews.{view_alarm}
+use Rattle.q_app.specs.Simplifying.{Ends}
+use Rattle.q_simplify.specs.declared.options.Options.{Options}
 use Rattle.q_app.specs.Words.{simplifying}
 use Rattle.q_app.proofs.CommandLines.{simplify-read, simplify-write}
 use Rattle.q_command.specs.Devices.{devices}
+use Rattle.q_command.specs.Sinks.{view_sink}
+use Rattle.q_command.specs.Told.{Runs}
 use Rattle.q_command.proofs.ToldLaws.{runs}
 use Rattle.q_app.proofs.FaultFree.{laws}
 use Rattle.q_app.specs.Told.{told}
+use Rattle.q_app.proofs.StoppedFiles.{ended-written, heard-set, under-each, under-set}
 use Rattle.q_app.proofs.top.run_simplify.Goals as goal
 
 pub returns-clause-runs : goal.returns-clause-runs
 returns-clause-runs g c =
     let o = c.simplify_file.result in
-    runs (told (simplifying (three_of c.args.asked.names) c.args.asked.options)) (laws (simplifying (three_of c.args.asked.names) c.args.asked.options)) o
-    (devices g.F.Files g.S.Sink c.args.files.now c.args.out.now) (devices g.F.Files g.S.Sink c.simplify_file.new.files c.say.new.out)
-    c.say.result c.simplify_file.ensures.ends c.say.ensures
-    (λ e. c.simplify_file.ensures.read_fault (simplify-read o e)) (λ e. c.simplify_file.ensures.write_fault (simplify-write o e)) tt
+    let n = three_of c.args.asked.names in
+    let old = devices g.F.Files g.S.Sink c.args.files.now c.args.out.now in
+    let new = devices g.F.Files g.S.Sink c.simplify_file.new.files c.say.new.out in
+    let first = view_alarm g.A.Alarm c.args.alarm.now in
+    let begun = view_alarm g.A.Alarm c.set.new.self in
+    let last = view_alarm g.A.Alarm c.simplify_file.new.alarm in
+    under-set (λ (p : Options). Runs (told (simplifying n p)) old c.say.result new) first begun last c.args.asked.options c.set.ensures.rang
+    (under-each (λ (p : Options). IfSome (g.F.Files.held c.args.files.now) (λ disk. Ends o p n.input n.output n.log disk (g.F.Files.held c.simplify_file.new.files))) (λ (p : Options). Runs (told (simplifying n p)) old c.say.result new) begun last c.args.asked.options
+    (λ p h. runs (told (simplifying n p)) (laws (simplifying n p)) o old new c.say.result h c.say.ensures
+    (λ e. c.simplify_file.ensures.read_fault (simplify-read o e)) (λ e. c.simplify_file.ensures.write_fault (simplify-write o e)) tt)
+    c.simplify_file.ensures.ends)
+
+pub returns-clause-alarm : goal.returns-clause-alarm
+returns-clause-alarm g c =
+    heard-set _ _ _ (view_alarm g.A.Alarm c.args.alarm.now) (view_alarm g.A.Alarm c.set.new.self) (view_alarm g.A.Alarm c.simplify_file.new.alarm) c.set.ensures.asked c.set.ensures.rang c.set.ensures.limit c.set.ensures.is_plain c.simplify_file.ensures.heard
+    (λ e. let w = ended-written c.simplify_file.result c.say.result (view_sink g.S.Sink c.args.out.now) (view_sink g.S.Sink c.say.new.out) c.say.ensures.answer e in c.simplify_file.ensures.asked w.0 w.1)
 
 pub returns-clause-later : goal.returns-clause-later
 returns-clause-later g c = record { read = c.simplify_file.ensures.later.read; write = c.simplify_file.ensures.later.write; sink = c.say.ensures.later.0 }

@@ -12,8 +12,8 @@ use Rattle.q_blocked.proofs.ReachedSets.{covered-blocked}
 use Rattle.q_blocked.proofs.CoverPass.{covered-looked}
 use Rattle.q_blocked.proofs.cover.cover_at.Goals as goal
 
-pub returns-then-not-branch : goal.returns-then-not-branch
-returns-then-not-branch c =
+pub returns-then-not-branch-clause-looked : goal.returns-then-not-branch-clause-looked
+returns-then-not-branch-clause-looked c =
     let k = c.args.kernel.now in
     let X = others c.args.c (slots k) in
     let l = c.at-l.result in
@@ -29,8 +29,8 @@ returns-then-not-branch c =
 passive : (P : Prefix) (X : Matrix) (S : Clause) (K : List Literal) (l : Literal) → ((k : Literal) → IsIn k K → ⊥) → IsLooked P X l S K true → IsPassive P X S l
 passive P X S K l n h e = (h.0, λ j i. elim (in_or_not j S) [ inl m ↦ m | inr o ↦ absurd (n j ((h.1 j).1 (i, o))) ])
 
-pub returns-then-is_bare : goal.returns-then-is_bare
-returns-then-is_bare c =
+pub returns-then-is_bare-clause-looked : goal.returns-then-is_bare-clause-looked
+returns-then-is_bare-clause-looked c =
     let k = c.args.kernel.now in
     let X = others c.args.c (slots k) in
     let S : Clause = c.args.growth.now.set in
@@ -44,12 +44,12 @@ returns-then-is_bare c =
       Rattle.std.proofs.Common.refl,
     )
 
-pub returns-then-covers_nothing : goal.returns-then-covers_nothing
-returns-then-covers_nothing c =
+pub returns-then-covers_nothing-clause-looked : goal.returns-then-covers_nothing-clause-looked
+returns-then-covers_nothing-clause-looked c =
     let k = c.args.kernel.now in
     let X = others c.args.c (slots k) in
     let S : Clause = c.args.growth.now.set in
-    let h : CoversNothing k.prefix X c.at-l.result S = c.covers_nothing.ensures c.if-covers_nothing.true in (
+    let h : CoversNothing k.prefix X c.at-l.result S = c.covers_nothing.ensures.nothing c.if-covers_nothing.true in (
       c.requires.growing,
       Rattle.std.proofs.Common.refl,
       Rattle.std.proofs.Common.refl,
@@ -75,8 +75,8 @@ cover_by-requires-clause-found c l e =
     (subst (λ (L : List Literal). CoveredBy k.prefix X S L l) (sym f)
     (subst (λ (j : Literal). CoveredBy k.prefix X S K j) i r))
 
-pub returns : goal.returns
-returns c =
+pub returns-clause-looked : goal.returns-clause-looked
+returns-clause-looked c =
     let k = c.args.kernel.now in
     let old = c.args.growth.now in
     let mid = c.end_stage-2.new.growth in

@@ -14,4 +14,4 @@ returns-then-not-is_grown-clause-decided c = turned-gives_none c.args.kernel.now
 pub loop-round-preserved : goal.loop-round-preserved
 loop-round-preserved c =
     let t = turned-on c.args.kernel.now c.args.c c.round.new.search.watches c.round.new.search.growth c.in_ok-progress.progress (sym c.is_grown.ensures ∙ c.if-not-is_grown.false) c.in_ok-progress.ensures.turned in
-    record { growing = t.0; units = c.round.ensures.units; watches = c.round.ensures.watches; followed = t.1 }
+    record { growing = t.0; units = c.round.ensures.units; watches = c.round.ensures.watches; apart = c.round.ensures.apart; followed = t.1 }

@@ -25,8 +25,8 @@ returns-then-is_tautology-clause-decided c =
           (covered-tautology P X C C [] (length C) (reached-begun P X C c.clause_of-clause.ensures.within) (c.is_tautology.ensures.0 c.if-is_tautology.true)))),
     )
 
-pub use_hint-requires : goal.use_hint-requires
-use_hint-requires c =
+pub use_hint-requires-clause-growing : goal.use_hint-requires-clause-growing
+use_hint-requires-clause-growing c =
     let P = c.args.kernel.now.prefix in
     let X = others c.args.c (slots c.args.kernel.now) in
     let C : Clause = c.clause_of-clause.result.now in

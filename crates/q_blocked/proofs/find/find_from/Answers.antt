@@ -7,13 +7,14 @@ use Rattle.q_rule.proofs.RuleSearch.{found-more}
 use Rattle.q_blocked.specs.declared.target.Target.{Target}
 use Rattle.q_blocked.specs.Targets.{target_of}
 use Rattle.q_blocked.proofs.BlockedSearch.{IsTried, tried-all}
+use Rattle.q_blocked.proofs.ApartNotes.{apart-none}
 use Rattle.q_blocked.proofs.find.find_from.Goals as goal
 
 pub find_at-requires-clause-live : goal.find_at-requires-clause-live
 find_at-requires-clause-live c = live-turn _ _ c.ids_from-c-items.ensures.live c.into_iter-c-iterator.ensures.into_iter_gives c.loop-c.yielded_by c.in-Some.ensures.steps
 
 pub loop-c-init : goal.loop-c-init
-loop-c-init c = record { tried = λ i e b. absurd (omega arith); units = λ e. absurd (true≢false (sym e ∙ c.forget.ensures)); watches = c.forget-2.ensures c.args.kernel.now }
+loop-c-init c = record { tried = λ i e b. absurd (omega arith); units = λ e. absurd (true≢false (sym e ∙ c.forget.ensures)); watches = c.forget-2.ensures c.args.kernel.now; apart = apart-none c.args.kernel.now c.forget-3.new.self c.forget-3.ensures }
 
 pub returns-then-is_some : goal.returns-then-is_some
 returns-then-is_some c =
@@ -28,6 +29,7 @@ loop-c-preserved c =
       tried = All-more (IsTried k) c.loop-c.yielded c.in-Some.c c.loop-c.invariant.tried (record { none = none });
       units = c.in_ok-found.ensures.units;
       watches = c.in_ok-found.ensures.watches;
+      apart = c.in_ok-found.ensures.apart;
     }
 
 pub returns : goal.returns

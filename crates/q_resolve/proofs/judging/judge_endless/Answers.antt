@@ -16,10 +16,10 @@ returns-then-not-may_stand c =
     (refused-endless o F c.args.trace.now c.requires.endless (λ m. let t : c.may_stand.result ≡ true = c.may_stand.ensures ∙ (may-decides o F.matrix []).1 m in absurd (cc)))
 
 pub extract-requires-clause-sound : goal.extract-requires-clause-sound
-extract-requires-clause-sound c = c.new_desk-desk.ensures.sound.sound
+extract-requires-clause-sound c = c.new_desk-desk.ensures.ready.sound
 
 pub extract-requires-clause-pivots : goal.extract-requires-clause-pivots
-extract-requires-clause-pivots c = no-pivots (is_universal c.args.prefix.now) c.new_desk-desk.result.away.drops.merges.items c.new_desk-desk.ensures.sound.merges
+extract-requires-clause-pivots c = no-pivots (is_universal c.args.prefix.now) c.new_desk-desk.result.away.drops.merges.items c.new_desk-desk.ensures.merges
 
 pub returns : goal.returns
 returns c =

@@ -1,9 +1,10 @@
-use Rattle.std.proofs.Common.{◌≡◌, ◌∙◌, sym, subst, true, false, List, slice_get, arith}
+use Rattle.std.proofs.Common.{◌≡◌, ◌∙◌, sym, subst, true, false, List, arith}
 use Rattle.q_logic.specs.Prelude.{Literal}
-use Rattle.q_derive.specs.Traces.{AreBound, single, double, literals_in}
+use Rattle.q_derive.specs.Traces.{AreBound}
+use Rattle.q_extract.specs.Saying.{said_in}
 use Rattle.q_resolve.specs.declared.finding.Found.{Found}
 use Rattle.q_resolve.specs.Leaves.{MayStand}
-use Rattle.q_resolve.specs.Judged.{AreParentsBound, entries_of, found_parents, IsLineJudged}
+use Rattle.q_resolve.specs.Judged.{AreParentsBound, entries_of, found_parents, IsSingleJudged, IsDoubleJudged, IsLineJudged}
 use Rattle.q_resolve.proofs.LineFaults.{least-unbound, bound-yes, bound-no, line-single, line-double}
 use Rattle.q_resolve.proofs.Lined.{line-leaf, line-gone, source-is}
 use Rattle.q_resolve.proofs.lines.judge_line.Goals as goal
@@ -19,7 +20,7 @@ returns-then-not-are_bound c =
 pub judge_single-requires-clause-bound : goal.judge_single-requires-clause-bound
 judge_single-requires-clause-bound c =
     let t : c.are_bound.result ≡ true = let x = c.if-not-are_bound.false in grind arith in
-    bound-yes c.args.prefix.now c.args.term.now (sym c.are_bound.ensures ∙ t)
+    subst (AreBound c.args.prefix.now) (sym c.in_ok-mark.ensures) (bound-yes c.args.prefix.now c.args.term.now (sym c.are_bound.ensures ∙ t))
 
 pub judge_single-requires-clause-source : goal.judge_single-requires-clause-source
 judge_single-requires-clause-source c =
@@ -31,7 +32,7 @@ judge_single-requires-clause-source c =
 pub judge_double-requires-clause-bound : goal.judge_double-requires-clause-bound
 judge_double-requires-clause-bound c =
     let t : c.are_bound.result ≡ true = let x = c.if-not-are_bound.false in grind arith in
-    bound-yes c.args.prefix.now c.args.term.now (sym c.are_bound.ensures ∙ t)
+    subst (AreBound c.args.prefix.now) (sym c.in_ok-mark.ensures) (bound-yes c.args.prefix.now c.args.term.now (sym c.are_bound.ensures ∙ t))
 
 pub judge_double-requires-clause-first : goal.judge_double-requires-clause-first
 judge_double-requires-clause-first c =
@@ -52,46 +53,60 @@ returns-in-Nothing c =
     let P = c.args.prefix.now in
     let T = c.args.term.now in
     let d = c.args.desk.now.away.drops in
+    let s = c.args.desk.now.said in
     let t : c.are_bound.result ≡ true = let x = c.if-not-are_bound.false in grind arith in
-    subst (λ (f : Found). IsLineJudged c.args.owner P c.args.formula.now.matrix (found_parents (entries_of c.args.trace.now.lines) f) T d d c.judge_leaf-fault.result) (sym c.in-Nothing.is)
-    (line-leaf c.args.owner P c.args.formula.now.matrix T d c.judge_leaf-fault.result (bound-yes P T (sym c.are_bound.ensures ∙ t)) c.requires.sound c.judge_leaf-fault.ensures)
+    subst (λ (f : Found). IsLineJudged c.args.owner P c.args.formula.now.matrix (entries_of c.args.trace.now.lines) c.args.n f T d d s s c.judge_leaf-fault.result) (sym c.in-Nothing.is)
+    (line-leaf c.args.owner P c.args.formula.now.matrix (entries_of c.args.trace.now.lines) c.args.n T d s c.judge_leaf-fault.result (bound-yes P T (sym c.are_bound.ensures ∙ t)) c.judge_leaf-fault.ensures)
 
 pub returns-in-Gone : goal.returns-in-Gone
 returns-in-Gone c =
     let P = c.args.prefix.now in
     let T = c.args.term.now in
     let d = c.args.desk.now.away.drops in
+    let s = c.args.desk.now.said in
     let t : c.are_bound.result ≡ true = let x = c.if-not-are_bound.false in grind arith in
-    subst (λ (f : Found). IsLineJudged c.args.owner P c.args.formula.now.matrix (found_parents (entries_of c.args.trace.now.lines) f) T d d c.judge_leaf-fault-in-Gone.result) (sym c.in-Gone.is)
-    (line-gone c.args.owner P c.args.formula.now.matrix T d c.judge_leaf-fault-in-Gone.result (bound-yes P T (sym c.are_bound.ensures ∙ t)) c.requires.sound c.judge_leaf-fault-in-Gone.ensures)
+    subst (λ (f : Found). IsLineJudged c.args.owner P c.args.formula.now.matrix (entries_of c.args.trace.now.lines) c.args.n f T d d s s c.judge_leaf-fault-in-Gone.result) (sym c.in-Gone.is)
+    (line-gone c.args.owner P c.args.formula.now.matrix (entries_of c.args.trace.now.lines) c.args.n T d s c.judge_leaf-fault-in-Gone.result (bound-yes P T (sym c.are_bound.ensures ∙ t)) c.judge_leaf-fault-in-Gone.ensures)
 
 pub returns-in_ok-fault-in-Single : goal.returns-in_ok-fault-in-Single
 returns-in_ok-fault-in-Single c =
+    let o = c.args.owner in
     let P = c.args.prefix.now in
     let T = c.args.term.now in
     let X = c.args.formula.now.matrix in
     let lines = c.args.trace.now.lines in
+    let i = c.in-Single.i in
+    let n = c.args.n in
     let old = c.args.desk.now.away.drops in
     let new = c.judge_single.new.away.drops in
+    let s = c.args.desk.now.said in
+    let u = c.judge_single.new.said in
     let r = c.in_ok-fault-in-Single.fault in
     let t : c.are_bound.result ≡ true = let x = c.if-not-are_bound.false in grind arith in
-    subst (λ (f : Found). IsLineJudged c.args.owner P X (found_parents (entries_of lines) f) T old new r) (sym c.in-Single.is)
-    (subst (λ (V : List Literal). IsLineJudged c.args.owner P X (single V) T old new r) (sym (source-is lines c.in-Single.i c.literals-source.result.now c.literals-source.ensures))
-    (line-single c.args.owner P X c.literals-source.result.now T old new r (bound-yes P T (sym c.are_bound.ensures ∙ t)) c.in_ok-fault-in-Single.ensures))
+    subst (λ (f : Found). IsLineJudged o P X (entries_of lines) n f T old new s u r) (sym c.in-Single.is)
+    (line-single o P X (entries_of lines) n i c.literals-source.result.now T old new s u r (source-is lines i c.literals-source.result.now c.literals-source.ensures)
+    (bound-yes P T (sym c.are_bound.ensures ∙ t))
+    (subst (λ (V : List Literal). IsSingleJudged o P c.literals-source.result.now V (said_in s i) n old new s u r) c.in_ok-mark.ensures c.in_ok-fault-in-Single.ensures))
 
 pub returns-in_ok-fault-in-Double : goal.returns-in_ok-fault-in-Double
 returns-in_ok-fault-in-Double c =
+    let o = c.args.owner in
     let P = c.args.prefix.now in
     let T = c.args.term.now in
     let X = c.args.formula.now.matrix in
     let lines = c.args.trace.now.lines in
+    let i = c.in-Double.i in
+    let j = c.in-Double.j in
+    let n = c.args.n in
     let old = c.args.desk.now.away.drops in
     let new = c.judge_double.new.away.drops in
+    let s = c.args.desk.now.said in
+    let u = c.judge_double.new.said in
     let r = c.in_ok-fault-in-Double.fault in
     let S = c.literals-first.result.now in
     let U = c.literals-second.result.now in
     let t : c.are_bound.result ≡ true = let x = c.if-not-are_bound.false in grind arith in
-    subst (λ (f : Found). IsLineJudged c.args.owner P X (found_parents (entries_of lines) f) T old new r) (sym c.in-Double.is)
-    (subst (λ (V : List Literal). IsLineJudged c.args.owner P X (double V (literals_in (slice_get (entries_of lines) c.in-Double.j))) T old new r) (sym (source-is lines c.in-Double.i S c.literals-first.ensures))
-    (subst (λ (V : List Literal). IsLineJudged c.args.owner P X (double S V) T old new r) (sym (source-is lines c.in-Double.j U c.literals-second.ensures))
-    (line-double c.args.owner P X S U T old new r (bound-yes P T (sym c.are_bound.ensures ∙ t)) c.in_ok-fault-in-Double.ensures)))
+    subst (λ (f : Found). IsLineJudged o P X (entries_of lines) n f T old new s u r) (sym c.in-Double.is)
+    (line-double o P X (entries_of lines) n i j S U T old new s u r (source-is lines i S c.literals-first.ensures) (source-is lines j U c.literals-second.ensures)
+    (bound-yes P T (sym c.are_bound.ensures ∙ t))
+    (subst (λ (V : List Literal). IsDoubleJudged o P S U V (said_in s i) (said_in s j) n old new s u r) c.in_ok-mark.ensures c.in_ok-fault-in-Double.ensures))

@@ -1,25 +1,29 @@
-use Rattle.std.proofs.Common.{◌≡◌, sym, ap, ◌∙◌, subst, refl, inl, List}
-use Rattle.q_logic.specs.Prelude.{Literal}
-use Rattle.q_derive.specs.Traces.{single}
-use Rattle.q_derive.specs.Testing.{some}
-use Rattle.q_resolve.specs.Tests.{is_other}
+use Rattle.std.proofs.Common.{◌∙◌, sym, subst}
 use Rattle.q_resolve.specs.Reduced.{IsReduction}
-use Rattle.q_resolve.proofs.LineFaults.{meeting-yes, meeting-no, least-merged, single-is}
+use Rattle.q_resolve.proofs.LineFaults.{anew-yes, anew-no, single-merged, single-fault}
 use Rattle.q_resolve.proofs.lines.judge_single.Goals as goal
 
-pub returns-then-some_meets : goal.returns-then-some_meets
-returns-then-some_meets c =
-    let P = c.args.prefix.now in
-    let T = c.args.term.now in
-    let S = c.args.source.now in
-    let own : some (λ (k : Literal). is_other P T k) T ≡ c.some_meets.result = sym (c.some_meets.ensures ∙ ap (λ (V : List Literal). some (λ (k : Literal). is_other P V k) T) c.requires.own) in
-    least-merged P (λ (V : List Literal). Unit {0}) (single S) T S c.requires.bound tt refl (inl (meeting-yes P T T (own ∙ c.if-some_meets.true)))
+pub returns-then-anew : goal.returns-then-anew
+returns-then-anew c =
+    single-merged c.args.prefix.now c.args.source.now c.args.own.now c.requires.bound (anew-yes c.args.prefix.now c.args.own.now c.args.source.now (sym c.in_ok-anew.ensures ∙ c.if-anew.true))
 
-pub returns : goal.returns
-returns c =
+pub returns-in-Some : goal.returns-in-Some
+returns-in-Some c =
     let P = c.args.prefix.now in
-    let T = c.args.term.now in
     let S = c.args.source.now in
-    let own : some (λ (k : Literal). is_other P T k) T ≡ c.some_meets.result = sym (c.some_meets.ensures ∙ ap (λ (V : List Literal). some (λ (k : Literal). is_other P V k) T) c.requires.own) in
-    single-is c.args.owner P S T c.args.away.now.drops c.reduce.new.away.drops c.in_ok-fault.fault c.requires.bound (meeting-no P T T (own ∙ c.if-some_meets.false))
-    (subst (λ (V : List Literal). IsReduction c.args.owner P S V c.args.away.now.drops c.reduce.new.away.drops c.in_ok-fault.fault) c.requires.own c.in_ok-fault.ensures)
+    let T = c.args.own.now in
+    single-fault P S T c.in-Some.fault c.requires.bound (anew-no P T S (sym c.in_ok-anew.ensures ∙ c.if-anew.false)) (subst (IsReduction P S T) c.in-Some.is c.fault_of.ensures)
+
+pub returns-in_ok-finish-in-None : goal.returns-in_ok-finish-in-None
+returns-in_ok-finish-in-None c =
+    let P = c.args.prefix.now in
+    let S = c.args.source.now in
+    let T = c.args.own.now in
+    let r = subst (IsReduction P S T) c.in-None.is c.fault_of.ensures in (
+      anew-no P T S (sym c.in_ok-anew.ensures ∙ c.if-anew.false),
+      r.0,
+      r.1,
+      c.say_same.new.drops,
+      c.in_ok-say_same-in-None.ensures,
+      c.in_ok-finish-in-None.ensures,
+    )

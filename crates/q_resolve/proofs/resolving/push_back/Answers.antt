@@ -3,7 +3,7 @@ use Rattle.std.proofs.lemmas.List.{append-nil}
 use Rattle.q_logic.specs.Prelude.{Literal}
 use Rattle.q_logic.specs.Prefixes.{place}
 use Rattle.q_logic.proofs.Common.{taken}
-use Rattle.q_resolve.specs.Plain.{sided}
+use Rattle.q_resolve.specs.Sides.{sided}
 use Rattle.q_resolve.specs.Reduced.{back_of}
 use Rattle.q_resolve.proofs.Joined.{row-more, back-last, back-yes, back-no}
 use Rattle.q_resolve.proofs.resolving.push_back.Goals.{then-seat-at+in_ok-push, else-seat-at}

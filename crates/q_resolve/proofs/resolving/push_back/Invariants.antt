@@ -1,5 +1,5 @@
 use Rattle.std.proofs.Common.{◌≡◌, ◌++◌, map, take}
-use Rattle.q_resolve.specs.Plain.{sided}
+use Rattle.q_resolve.specs.Sides.{sided}
 use Rattle.q_resolve.specs.Reduced.{back_of}
 use Rattle.q_resolve.proofs.resolving.push_back.Given as goal
 

@@ -11,22 +11,23 @@ use Rattle.q_run_disprove.specs.declared.disproved.Disproved.{Disproved}
 use Rattle.q_run_disprove.proofs.DisproveOutcome.{says-files, says-of, input-says, input-fault, fault-is, never-write}
 use Rattle.q_run_disprove.proofs.disproving.disprove_shared.Goals as goal
 
-pub returns-in-Ok-clause-disproves : goal.returns-in-Ok-clause-disproves
-returns-in-Ok-clause-disproves g c =
-    says-files (share_of c.args.part) (told_by_part c.judge.result) (files_of c.args.names) c.args.binary (g.F.Files.held c.args.files.now) (g.F.Files.held c.judge.new.files)
-    (c.judge.ensures.only_reads.same ∙ c.in-Ok.ensures.only_reads.same)
+pub returns-clause-disproves : goal.returns-clause-disproves
+returns-clause-disproves g c =
+    let o = c.judge-verdict.result.outcome in
+    says-files (share_of c.args.part) (told_by_part o) (files_of c.args.names) c.args.binary (g.F.Files.held c.args.files.now) (g.F.Files.held c.judge-verdict.new.files)
+    (c.judge-verdict.ensures.only_reads.same ∙ c.in-Ok.ensures.only_reads.same)
     (if_some_2 (g.F.Files.held c.args.files.now) c.in-Ok.ensures.formula
-    (at_same _ _ _ c.in-Ok.ensures.only_reads.same c.judge.ensures.says)
-    (λ disk f a. says-of (share_of c.args.part) c.judge.result (files_of c.args.names) c.args.binary disk c.in-Ok.formula f a))
+    (at_same _ _ _ c.in-Ok.ensures.only_reads.same c.judge-verdict.ensures.says)
+    (λ disk f a. says-of (share_of c.args.part) o (files_of c.args.names) c.args.binary disk c.in-Ok.formula f a.says))
 
-pub returns-in-Ok-clause-read_fault : goal.returns-in-Ok-clause-read_fault
-returns-in-Ok-clause-read_fault g c e =
-    inr (rose_later (g.F.Files.read_faults c.args.files.now c.args.names.proof.now) (g.F.Files.read_faults c.read_input.new.files c.args.names.proof.now) (g.F.Files.read_faults c.judge.new.files c.args.names.proof.now)
+pub returns-clause-read_fault : goal.returns-clause-read_fault
+returns-clause-read_fault g c e =
+    inr (rose_later (g.F.Files.read_faults c.args.files.now c.args.names.proof.now) (g.F.Files.read_faults c.read_input.new.files c.args.names.proof.now) (g.F.Files.read_faults c.judge-verdict.new.files c.args.names.proof.now)
     (c.in-Ok.ensures.only_reads.later.read c.args.names.proof.now)
-    (c.judge.ensures.fault (fault-is c.judge.result e)))
+    (c.judge-verdict.ensures.fault (fault-is c.judge-verdict.result.outcome e)))
 
-pub returns-in-Ok-clause-write_fault : goal.returns-in-Ok-clause-write_fault
-returns-in-Ok-clause-write_fault g c = never-write c.judge.result
+pub returns-clause-write_fault : goal.returns-clause-write_fault
+returns-clause-write_fault g c = never-write c.judge-verdict.result.outcome
 
 pub returns-in-Err-clause-disproves : goal.returns-in-Err-clause-disproves
 returns-in-Err-clause-disproves g c =

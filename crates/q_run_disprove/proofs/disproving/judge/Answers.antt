@@ -10,8 +10,9 @@ use Rattle.q_run_disprove.proofs.disproving.judge.Goals as goal
 pub returns-in-Ok-start-clause-says : goal.returns-in-Ok-start-clause-says
 returns-in-Ok-start-clause-says g c =
     IfSome_then (g.F.Files.held c.args.files.now) c.read_proof.ensures.tells
-    (λ disk t. told-whole c.read_proof.result c.args.binary c.args.part c.args.formula c.in-Ok-start.reading (bytes_at disk c.args.name.now) c.in-Ok-start.ensures.started t)
+    (λ disk t. told-whole c.read_proof.result c.args.form c.args.part c.args.formula c.in-Ok-start.reading (bytes_at disk c.args.name.now) c.in-Ok-start.ensures.started t)
 
 pub returns-clause-says : goal.returns-clause-says
 returns-clause-says g c =
-    if_some (g.F.Files.held c.args.files.now) (λ disk. at-once (share_of c.args.part) c.in-Err.outcome c.args.formula (proof_of c.args.binary (bytes_at disk c.args.name.now)) c.in-Err.ensures.lost)
+    if_some (g.F.Files.held c.args.files.now) (λ disk.
+    at-once c.args.form.keeps (share_of c.args.part) c.in-Err.verdict c.args.formula (proof_of c.args.form.binary (bytes_at disk c.args.name.now)) c.in-Err.ensures.lost)

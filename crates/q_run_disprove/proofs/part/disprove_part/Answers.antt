@@ -1,4 +1,4 @@
-use Rattle.std.proofs.Common.{◌≡◌, ◌≢◌, IfSome, subst, sym}
+use Rattle.std.proofs.Common.{◌≡◌, IfSome, subst, sym}
 use Rattle.q_command.specs.Parts.{share_of}
 use Rattle.q_command.specs.Statuses.{status_of}
 use Rattle.q_command.specs.declared.outcome.Outcome.{Outcome}

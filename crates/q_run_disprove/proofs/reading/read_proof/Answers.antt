@@ -1,4 +1,4 @@
-use Rattle.std.proofs.Common.{arith, ap, Err}
+use Rattle.std.proofs.Common.{arith}
 use Rattle.q_io.specs.Files.{bytes_at}
 use Rattle.q_io.proofs.FaultCounts.{reads_at_once, reads_still, rose_later}
 use Rattle.q_command.proofs.FilePieces.{if_some, if_some_2, at_same}
@@ -37,11 +37,11 @@ pub returns-in-Err-clause-tells : goal.returns-in-Err-clause-tells
 returns-in-Err-clause-tells g c =
     let tells = at_same _ _ _ c.loop-reading.invariant.only_reads.same c.in-Err.ensures.tells in
     if_some_2 (g.F.Files.held c.args.files.now) c.loop-reading.invariant.front tells
-    (λ disk f r. tells_whole (bytes_at disk c.args.name.now) c.loop-reading.at c.args.reading c.loop-reading.reading c.in-Err.outcome f r)
+    (λ disk f r. tells_whole (bytes_at disk c.args.name.now) c.loop-reading.at c.args.reading c.loop-reading.reading c.in-Err.verdict f r)
 
 pub returns-in-Err-clause-fault : goal.returns-in-Err-clause-fault
 returns-in-Err-clause-fault g c =
-    λ e. rose_later _ _ _ (c.loop-reading.invariant.only_reads.later.read c.args.name.now) (c.in-Err.ensures.fault (ap Err e))
+    λ e. rose_later _ _ _ (c.loop-reading.invariant.only_reads.later.read c.args.name.now) (c.in-Err.ensures.fault e)
 
 pub returns-in-Err-clause-only_reads : goal.returns-in-Err-clause-only_reads
 returns-in-Err-clause-only_reads g c = reads_still _ _ _ _ _ _ c.loop-reading.invariant.only_reads c.read_piece.ensures.only_reads

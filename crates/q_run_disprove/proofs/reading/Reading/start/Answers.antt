@@ -12,8 +12,8 @@ returns-in-Ok-start-clause-started c =
     record {
       stands = record {
         entries = [];
-        proof = λ rest. sym (c.in-Ok.ensures.proof rest ∙ ap (λ (k : ℕ). read_proof c.args.binary k rest) bytes);
-        so_far = begins c.args.part c.args.formula c.in-Ok-start.refuter begun;
+        proof = λ rest. sym (c.in-Ok.ensures.proof rest ∙ ap (λ (k : ℕ). read_proof c.args.form.binary k rest) bytes);
+        so_far = begins c.args.form.keeps c.args.part c.args.formula c.in-Ok-start.refuter begun;
       };
       left = left;
       goes_on = record { under_way = begun.under_way; room = omega (arith, left, begun.none) };

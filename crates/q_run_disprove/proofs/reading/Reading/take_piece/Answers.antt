@@ -16,5 +16,5 @@ loop-at-preserved c =
 pub returns-in-Err-clause-tells : goal.returns-in-Err-clause-tells
 returns-in-Err-clause-tells c =
     let rest = whole-rest c.args.piece.now c.loop-at.at in
-    tells_from c.args.self.now c.loop-at.self c.args.piece.now c.loop-at.at c.in-Err.outcome c.loop-at.invariant.0
-    (λ more. subst (λ xs. Tells c.in-Err.outcome c.loop-at.self (xs ++ more)) rest (c.in-Err.ensures.tells more))
+    tells_from c.args.self.now c.loop-at.self c.args.piece.now c.loop-at.at c.in-Err.verdict c.loop-at.invariant.0
+    (λ more. subst (λ xs. Tells c.in-Err.verdict c.loop-at.self (xs ++ more)) rest (c.in-Err.ensures.tells more))

@@ -19,7 +19,7 @@ returns-in-Ok-clause-ok c =
 pub returns-in-Err-take-clause-tells : goal.returns-in-Err-take-clause-tells
 returns-in-Err-take-clause-tells c =
     let e : Entry = (c.in-Ok-default-Some.line, c.in-Ok-default-Some.step) in
-    tells_piece c.args.self.now c.args.piece.now c.in-Ok-default-Some.count c.in-Err-take.outcome e (λ rest. to_come c.next.new.self rest) c.requires.goes_on c.in-Err-take.ensures.convicts
+    tells_piece c.args.self.now c.args.piece.now c.in-Ok-default-Some.count c.in-Err-take.verdict e (λ rest. to_come c.next.new.self rest) c.requires.goes_on c.in-Err-take.ensures.convicts
     (leads-some c.in-Ok-default-Some.field-0-1 (λ rest. to_come c.args.self.now.reader (take c.in-Ok-default-Some.count c.args.piece.now ++ rest)) (λ rest. to_come c.next.new.self rest) e c.in-Ok-default-Some.field-0-1-is c.in-Ok-default-Some.ensures.next)
 
 pub returns-in-Err-clause-tells : goal.returns-in-Err-clause-tells

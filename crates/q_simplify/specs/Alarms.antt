@@ -1,0 +1,32 @@
+-- What an alarm counts, and what a run under one does: it is as under a budget.
+use Rattle.std.specs.Prelude.{◌≡◌, ◌⊎◌, ◌+◌, ◌-◌, ◌^◌, ℕ, Bool, Option, min}
+use Rattle.q_logic.specs.Prelude.{Rose}
+
+-- a count that goes up by one, and stays at the last number that a u64 has
+abbrev pub risen : ℕ → ℕ
+risen count = min (count + 1) (2 ^ 64 - 1)
+
+-- an alarm at a moment: how often it was asked and rang, and what it was set to
+pub record AlarmView : Type 0 where
+  pub asked : ℕ
+  pub rang : ℕ
+  pub limit : Option ℕ
+  pub is_plain : Bool
+
+-- it rang, once
+abbrev pub Rang : AlarmView → AlarmView → Type 0
+Rang before after = after.rang ≡ risen before.rang
+
+-- what it was set to stays
+pub record StaysSet (before after : AlarmView) : Type 0 where
+  pub limit : after.limit ≡ before.limit
+  pub is_plain : after.is_plain ≡ before.is_plain
+
+-- turns over which it is asked: it rings at most once, and is asked no more then
+pub record IsHeard (before after : AlarmView) : Type 0 where
+  pub set : StaysSet before after
+  pub rang : (after.rang ≡ before.rang) ⊎ Rang before after
+
+-- it was asked
+abbrev pub WasAsked : AlarmView → AlarmView → Type 0
+WasAsked before after = Rose before.asked after.asked
