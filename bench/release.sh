@@ -1,6 +1,6 @@
 #!/bin/sh
-# Remakes dist/: the program, the one that plays the rows and the library for C, proved and built from the sources as they are, and
-# the sources' hash beside them.
+# Remakes dist/: the program, the one that plays the rows and the libraries for C, proved and built from the sources as they are, and
+# beside them the sources' hash, and a line on the tools that compiled C.
 #
 # Usage: bench/release.sh; wants Rattle's kit and a C compiler
 [ $# -eq 0 ] || { sed -n '2,5s/^# \{0,1\}//p' "$0" && exit 64; }
@@ -25,21 +25,17 @@ release() {
     chmod 755 "dist/$2-x86_64-linux"
 }
 
-# The library has the calls; what they want of malloc, packaging/celdrinn_memory.c, is compiled and put beside them.
-release_library() {
-    library=crates/q_c_library/out/libq_c_library.a
-    is_built "$library" || (cd crates/q_c_library && rt lib) || exit 1
-    to=$PWD/dist/libceldrinn-x86_64-linux.a
-    work=$(mktemp -d) || exit 1
-    ${CC:-cc} -O2 -fPIC -c -o "$work/celdrinn_memory.o" packaging/celdrinn_memory.c || exit 1
-    cp "$library" "$to" && ar rDs "$to" "$work/celdrinn_memory.o" || exit 1
-    rm -rf "$work"
+# The archive of proved calls, and of it the libraries for C (bench/libraries.sh).
+release_libraries() {
+    calls=crates/q_c_library/out/libq_c_library.a
+    is_built "$calls" || (cd crates/q_c_library && rt lib) || exit 1
+    bench/libraries.sh "$calls" dist || exit 1
 }
 
 before=$(bench/sources.sh)
 release q_main celdrinn
 release q_tests rows
-release_library
+release_libraries
 if [ "$(bench/sources.sh)" != "$before" ]; then
     echo "release: the sources changed meanwhile" >&2
     exit 1

@@ -85,7 +85,7 @@ complete -c celdrinn -n __celdrinn_is_first -l version -d 'prints the version an
 complete -c celdrinn -n '__celdrinn_wants_option simplify validate solve' -a --budget= -d 'stops after so much'
 complete -c celdrinn -n '__celdrinn_wants_option simplify solve' -a --grow= -d 'by how much an elimination may let the formula grow'
 complete -c celdrinn -n '__celdrinn_wants_option simplify solve' -a --expand= -d 'by how much an expansion may let the formula grow'
-complete -c celdrinn -n '__celdrinn_wants_option simplify' -a --time= -d 'takes no further step after so many seconds, and writes what is reached'
+complete -c celdrinn -n '__celdrinn_wants_option simplify' -a --time= -d 'stops after so many seconds, and writes what is reached'
 complete -c celdrinn -n '__celdrinn_wants_option simplify' -a --plain -d 'leaves extended universal reduction out, over which refute carries nothing back'
 complete -c celdrinn -n '__celdrinn_wants_option check annotate disprove' -a --part= -d 'judges every Nth block of 1,000 steps, and makes the others'
 complete -c celdrinn -n '__celdrinn_wants_option disprove' -a --binary -d 'reads as a binary proof what could be a text'

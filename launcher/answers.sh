@@ -201,8 +201,10 @@ explain_fault() {
     if [ -s "$words" ]; then
         sed "s#$work/\([A-Z]*\)'#\1'#" "$words" >&2
     elif [ "$line" = 'write fault' ]; then
-        for role in OUT LOG CERT HINTED IN; do
-            name=$(named $role)
+        for operand in $operands; do
+            divide "$operand"
+            [ "$kind" = '>' ] || continue
+            name=$(named "$role")
             why=
             case $name in '' | - | none) continue ;; esac
             [ -e "$name" ] || why=$(LC_ALL=C dd if=/dev/null of="$name" count=0 2>&1 | sed -n 's/^dd: .*: //p')
@@ -210,9 +212,10 @@ explain_fault() {
         done
     fi
 }
-log_role() { if [ -n "${name_PROOF-}" ]; then echo PROOF; elif [ -n "${name_TRACE-}" ]; then echo TRACE; else echo LOG; fi; }
-circuits_role() { case $command in rebuild) echo SKOLEM ;; refute) echo HERBRAND ;; *) echo CERT ;; esac; }
-formula_role() { case $command in rebuild | refute) echo OUT ;; *) echo IN ;; esac; }
+# Which of the operands a line means, by those that the command takes.
+log_role() { case $operands in *PROOF*) echo PROOF ;; *TRACE*) echo TRACE ;; *) echo LOG ;; esac; }
+circuits_role() { case $operands in *SKOLEM*) echo SKOLEM ;; *HERBRAND*) echo HERBRAND ;; *) echo CERT ;; esac; }
+formula_role() { case $(circuits_role) in CERT) echo IN ;; *) echo OUT ;; esac; }
 
 is_told='' last_read=''
 

@@ -1,6 +1,6 @@
 # shellcheck shell=sh
 # A run of `simplify` that is stopped: at the first INT or TERM the launcher makes a file, for which the program looks again and again, and the
-# program ends as one whose budget is spent: with a line, OUT and LOG. A later signal ends it at once. The program itself is deaf to both, since
+# program stops: with a line, OUT and LOG. A later signal ends it at once. The program itself is deaf to both, since
 # who sends them may send them to all that was started; and to the launcher twice, as `timeout` does, so a second one counts two seconds later
 # only, and a third one at any time.
 

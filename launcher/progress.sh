@@ -41,7 +41,8 @@ behind_reading() {
         rebuild | refute) echo "the circuits are carried back" ;;
         extract) echo "circuits are made" ;;
         miter) echo "clauses are made" ;;
-        *) echo "the end is compared" ;;
+        check | annotate) echo "the end is compared" ;;
+        *) echo "all is read" ;;
     esac
 }
 

@@ -260,13 +260,10 @@ look() {
         refuse "too many words for $command: '$1'${many:-; see 'celdrinn help $command'}"
     fi
     inputs='' outputs='' log='' place=0
-    case $command in
-        simplify | solve) log=${3-} ;;
-        demo) log=${5-} ;;
-    esac
     count=$#
     for operand in $operands; do
         place=$((place + 1))
+        case $operand in '>LOG'*) [ $place -gt $count ] || eval "log=\${$place}" ;; esac
         if [ $place -gt $count ]; then
             divide "$operand"
             [ -n "$default" ] || break

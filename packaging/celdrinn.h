@@ -42,7 +42,8 @@ struct celdrinn_word {
 
 /* There are as many lengths as words: each is that of the file which its word names, and 0 where that was given or was not made. The
  * bytes of all these files go to `made`, one behind the other in the order of the words, where there is room for all of them. 64 also
- * where a word is no text in UTF-8, or the numbers of words and lengths differ. */
+ * where a word is no text in UTF-8, or the numbers of words and lengths differ. No alarm stops a call: `--time` and `--plain` of `simplify`
+ * change nothing here. */
 uint8_t celdrinn_run(const struct celdrinn_word *words, size_t words_count, size_t *lengths, size_t lengths_count, uint8_t *made,
                      size_t made_room, uint8_t *line, size_t line_room, size_t *line_len);
 

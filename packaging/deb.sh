@@ -60,6 +60,11 @@ Description: proved preprocessor for quantified Boolean formulas
  .
  It is proved correct, from the bytes it reads to the bytes it writes.
 END
+# so that programs find the shared library, and packages of such programs name this one
+if [ -f "$root/usr/lib/libceldrinn.so.1" ]; then
+    echo "activate-noawait ldconfig" >"$root/DEBIAN/triggers"
+    echo "libceldrinn 1 celdrinn (>= ${version%-*})" >"$root/DEBIAN/shlibs"
+fi
 (cd "$root" && find usr -type f -print0 | LC_ALL=C sort -z | xargs -0 md5sum >DEBIAN/md5sums) || exit 1
 find "$root" -exec touch -h -d "@$SOURCE_DATE_EPOCH" {} +
 dpkg-deb --root-owner-group -Zxz --build "$root" "$to/celdrinn_${version}_amd64.deb" >/dev/null || exit 1

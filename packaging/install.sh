@@ -16,7 +16,9 @@ esac
 
 lib=$root/lib/celdrinn
 archive=$root/lib/libceldrinn.a
-header=$root/include/celdrinn.h
+shared=$root/lib/libceldrinn.so
+headers=$root/include
+told=$root/lib/pkgconfig/celdrinn.pc
 doc=$root/share/doc/celdrinn
 bash_completion=$root/share/bash-completion/completions/celdrinn
 zsh_completion=$root/share/zsh/site-functions/_celdrinn
@@ -25,7 +27,8 @@ pages=$root/share/man/man1
 
 if [ -n "$remove" ]; then
     rm -rf "$lib" "$doc"
-    rm -f "$root/bin/celdrinn" "$archive" "$header" "$bash_completion" "$zsh_completion" "$fish_completion" "$pages/celdrinn.1" "$pages"/celdrinn-*.1
+    rm -f "$archive" "$shared" "$shared.1" "$headers/celdrinn.h" "$headers/celdrinn2.h" "$told"
+    rm -f "$root/bin/celdrinn" "$bash_completion" "$zsh_completion" "$fish_completion" "$pages/celdrinn.1" "$pages"/celdrinn-*.1
     exit
 fi
 
@@ -57,10 +60,19 @@ put_as 755 "$program" "$lib/program"
 put 644 "$lib" VERSION
 put 644 "$lib/launcher" launcher/*
 put 644 "$lib/help" help/*.txt
-# The library for programs in C, where it is there.
+# The libraries for programs in C, where they are there: the proved calls, and the shared one.
 if [ -f dist/libceldrinn-x86_64-linux.a ]; then
     put_as 644 dist/libceldrinn-x86_64-linux.a "$archive"
-    put_as 644 packaging/celdrinn.h "$header"
+    put_as 644 packaging/celdrinn.h "$headers/celdrinn.h"
+fi
+if [ -f dist/libceldrinn-x86_64-linux.so.1 ]; then
+    put_as 644 dist/libceldrinn-x86_64-linux.so.1 "$shared.1"
+    ln -sf libceldrinn.so.1 "$shared" || exit 1
+    put_as 644 packaging/lib/celdrinn2.h "$headers/celdrinn2.h"
+    mkdir -p "${told%/*}" && chmod 755 "${told%/*}" || exit 1
+    sed "s|@PREFIX@|$prefix|; s|@VERSION@|$(sed -n '1s/^celdrinn //p' VERSION)|" packaging/lib/celdrinn.pc.in >"$told" && chmod 644 "$told" || exit 1
+    # so that programs find it where the system looks for libraries; who may not do that has other ways
+    [ -n "${2:-}" ] || ! command -v ldconfig >/dev/null || ldconfig 2>/dev/null || :
 fi
 mkdir -p "$root/bin" && ln -sf ../lib/celdrinn/celdrinn "$root/bin/celdrinn" || exit 1
 put 644 "$doc" README.md CHANGELOG.md LICENSE CITATION.cff

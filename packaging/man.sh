@@ -1,6 +1,7 @@
 #!/bin/sh
-# Makes a manual page for each command, docs/man/celdrinn-COMMAND.1, of the command's help and the table launcher/words.txt; with --check it says
-# which of them are not what these say, or which command or option docs/celdrinn.1 doesn't have, and ends with 1. Usage: packaging/man.sh [--check]
+# Makes a manual page for each command, docs/man/celdrinn-COMMAND.1, of the command's help and the table launcher/words.txt, and of that table the
+# synopsis of docs/celdrinn.1; with --check it says which of them are not what these say, and ends with 1. In either case it says which
+# command or option docs/celdrinn.1 doesn't explain. Usage: packaging/man.sh [--check]
 set -u
 cd "$(dirname "$0")/.." || exit 1
 work=$(mktemp -d) || exit 1
@@ -53,20 +54,57 @@ page() {
         }' "help/$1.txt"
 }
 
+# The synopsis: the operands and options of each command. What all commands have stands in the list of options alone.
+synopsis() {
+    awk '
+        /^#/ || NF == 0 { next }
+        { split($0, part, / *[|] */) }
+        # `--part=I/N` is what mdoc writes as .Op Fl -part Ns = Ns Ar I Ns / Ns Ar N
+        /^--/ {
+            name = form = part[1]
+            sub(/[=[].*/, "", name); sub(/^--[a-z]*/, "", form)
+            is_within = sub(/^\[=/, "=", form); sub(/\]$/, "", form); sub(/^=/, "", form); gsub("/", " Ns / Ns Ar ", form)
+            shown[name] = ".Op Fl " substr(name, 2) (form == "" ? "" : (is_within ? " Ns Op = Ns Ar " : " Ns = Ns Ar ") form)
+            next
+        }
+        /^[A-Z]/ { next }
+        { word[++count] = part[1]; operands[count] = part[2]; options[count] = part[3] }
+        END {
+            for (k = 1; k <= count; k++) {
+                print ".Nm\n.Cm " word[k]
+                n = split(operands[k], operand, / +/)
+                wanted = left = ""
+                for (i = 1; i <= n; i++) {
+                    name = substr(operand[i], 2)
+                    if (sub(/=.*/, "", name)) left = left (left == "" ? ".Op Ar " : " Op Ar ") name
+                    else wanted = wanted (wanted == "" ? ".Ar " : " ") name
+                }
+                if (wanted != "") print wanted
+                if (left != "") print left
+                n = split(options[k], option, / +/)
+                for (i = 1; i <= n; i++) if (option[i] != "stats") print shown["--" option[i]]
+            }
+            print ".Nm\n.Cm help\n.Op Ar command\n.Nm\n.Fl -help | Fl h | Fl -version"
+        }' launcher/words.txt
+}
+
 mkdir "$work/man"
+awk -v made="$(synopsis)" '/^[.]Sh DESCRIPTION/ { inside = 0 } !inside { print } /^[.]Sh SYNOPSIS/ { print made; inside = 1 }' docs/celdrinn.1 >"$work/celdrinn.1"
 sed -n 's/^\([a-z][a-z]*\) | .* | \(.*\)$/\1 \2/p' launcher/words.txt >"$work/commands"
 while read -r command text; do
     [ -f "help/$command.txt" ] || { echo "help/$command.txt is missing" >&2 && exit 1; }
     page "$command" "$text" >"$work/man/celdrinn-$command.1"
-    grep -q "^\.Cm $command\$" docs/celdrinn.1 || { echo "docs/celdrinn.1 lacks the command $command" >&2 && exit 1; }
+    grep -q "^\.It Cm $command\$" docs/celdrinn.1 || { echo "docs/celdrinn.1 doesn't explain the command $command" >&2 && exit 1; }
 done <"$work/commands"
 sed -n 's/^--\([a-z]*\).*/\1/p' launcher/words.txt >"$work/options"
 while read -r option; do
-    grep -q "^\.\(Fl\|It\|Op\) .*-$option\( \|\$\)" docs/celdrinn.1 || { echo "docs/celdrinn.1 lacks the option --$option" >&2 && exit 1; }
+    grep -q "^\.It Fl .*-$option\( \|\$\)" docs/celdrinn.1 || { echo "docs/celdrinn.1 doesn't explain the option --$option" >&2 && exit 1; }
 done <"$work/options"
 
 if [ "${1-}" = --check ]; then
     diff -r "$work/man" docs/man >"$work/diff" || { head -n 1 "$work/diff" >&2 && exit 1; }
+    cmp -s "$work/celdrinn.1" docs/celdrinn.1 || { echo "the synopsis of docs/celdrinn.1 is not what launcher/words.txt says: packaging/man.sh makes it" >&2 && exit 1; }
     exit
 fi
 mkdir -p docs/man && rm -f docs/man/* && cp "$work"/man/* docs/man/
+cmp -s "$work/celdrinn.1" docs/celdrinn.1 || cp "$work/celdrinn.1" docs/celdrinn.1

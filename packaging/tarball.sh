@@ -18,7 +18,9 @@ program=dist/celdrinn-x86_64-linux
 cp "$program" "$work/$name/program" || exit 1
 [ ! -f dist/rows-x86_64-linux ] || cp dist/rows-x86_64-linux "$work/$name/dist/" || exit 1
 cp -R celdrinn launcher VERSION README.md CHANGELOG.md LICENSE CITATION.cff Makefile completion docs examples help tests "$work/$name/" || exit 1
-[ ! -f dist/libceldrinn-x86_64-linux.a ] || cp dist/libceldrinn-x86_64-linux.a "$work/$name/dist/" || exit 1
+for library in dist/libceldrinn-x86_64-linux.a dist/libceldrinn-x86_64-linux.so.1; do
+    [ ! -f "$library" ] || cp "$library" "$work/$name/dist/" || exit 1
+done
 cp -R packaging/* "$work/$name/packaging/" || exit 1
 rm -rf "$work/$name/packaging/lib/build"
 find "$work/$name" -name __pycache__ -prune -exec rm -rf {} +

@@ -11,6 +11,7 @@ for page; do
             # the circuit that is here has two parameters
             sub(/circuit[.]blif 16 /, "circuit.blif 2 ", line)
             sub(/^cc /, "CPATH=there/include LIBRARY_PATH=there/lib cc ", line)
+            sub(/^[.]\/linked /, "LD_LIBRARY_PATH=there/lib ./linked ", line)
             if (line ~ /[<>]\(/) { gsub(/[\\"$`]/, "\\\\&", line); line = "bash -c \"" line "\"" }
             commands[++count] = line
         }

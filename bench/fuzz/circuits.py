@@ -69,7 +69,6 @@ def read_symbols(lines, first, inputs, outputs, end):
     for line, text in enumerate(lines, first):
         words = words_of(text)
         if words == [b"c"]:
-            end = line if not all_named(names) else end
             break
         if not words:
             continue

@@ -1,4 +1,5 @@
 """What each command has to answer to a case, by the reference: a case is a command with its options and the files that it reads."""
+import os
 from collections import namedtuple
 
 import circuits
@@ -11,14 +12,25 @@ Case = namedtuple("Case", "verb options files fault left", defaults=[frozenset()
 Answer = namedtuple("Answer", "status line files")  # files: name -> bytes of the written ones that are there
 FOLDER = "a folder"
 
-READS = {"simplify": ["IN"], "check": ["IN", "OUT", "LOG"], "annotate": ["IN", "OUT", "LOG"], "rebuild": ["IN", "OUT", "LOG", "SKOLEM"],
-         "refute": ["IN", "OUT", "LOG", "HERBRAND"], "validate": ["IN", "CERT"], "miter": ["IN", "CERT"], "solve": ["IN"],
-         "extract": ["IN", "TRACE"], "disprove": ["IN", "PROOF"], "certified": ["IN", "PROOF"], "apply": ["IN", "LOG"], "gen": [], "demo": []}
-WRITES = {"simplify": ["OUT", "LOG"], "check": [], "annotate": ["HINTED"], "rebuild": ["CERT"], "refute": ["CERT"], "validate": [],
-          "miter": ["OUT"], "solve": ["OUT", "LOG", "CERT"], "extract": ["CERT"], "disprove": [], "certified": ["CERT"], "apply": ["OUT"], "gen": ["OUT"],
-          "demo": ["IN", "OUT", "LOG"]}
-# the word of a command that is none of these: `disprove` with circuits
+# the commands of the launcher alone, and the word of a command that is none of the table: `disprove` with circuits
+LAUNCHER = ("certify", "mend")
 WORDS = {"certified": "disprove"}
+
+
+def operands():
+    """The files that each command reads and writes, by the table of words. One that may be wanting is written by the command of its own."""
+    reads, writes = {}, {}
+    with open(os.path.join(os.path.dirname(os.path.realpath(__file__)), "../../launcher/words.txt"), encoding="utf-8") as table:
+        for line in table:
+            word, _, rest = line.partition(" | ")
+            if line[:1].islower() and word not in LAUNCHER:
+                names = rest.split("|")[0].split()
+                reads[word] = [name[1:] for name in names if name[0] == "<"]
+                writes[word] = [name[1:].partition("=")[0] for name in names if name[0] == ">" and name[-1] != "="]
+    return {**reads, "certified": reads["disprove"]}, {**writes, "certified": ["CERT"]}
+
+
+READS, WRITES = operands()
 
 
 class Wrong(Exception):
@@ -128,13 +140,14 @@ def simplify(case, answer):
     grow, expand, budget = (option(case, n, d) for n, d in (("grow", 0), ("expand", 16), ("budget", None)))
     end = written_formula(answer, "OUT")
     first, last = (formulas.measure(f, grow, expand) for f in (start, end))
-    words = {0: "settled", 10: "true", 20: "false", 2: "spent"}
+    plain = "--plain" in case.options
+    stopped = plain and answer.line.startswith("stopped ")
+    words = {0: "settled", 10: "true", 20: "false", 2: "stopped" if stopped else "spent"}
     want(answer.status in words, "status 0, 2, 10 or 20")
     want(answer.line == f"{words[answer.status]} {first} {last}", f"'{words[answer.status]} {first} {last}'")
     want((answer.status == 10) == (end.matrix == []), "true where no clause is left")
     want((answer.status == 20) == (end.matrix == [frozenset()]), "false where the empty clause is left")
-    plain = "--plain" in case.options
-    want(answer.status != 2 or plain or budget is not None and first - last >= budget, "spent where the budget is, or in a plain run")
+    want(answer.status != 2 or stopped or budget is not None and first - last >= budget, "spent where the budget is, or stopped in a plain run")
     want(formulas.is_true(start) == formulas.is_true(end), "one truth value")
     judged = None if "LOG" in case.left else logs.judge(start, end, written(answer, "LOG"))
     want(judged is None or judged.refusal is None, f"a right log, and not {judged and judged.refusal}")
@@ -392,8 +405,8 @@ def demo(case, answer):
     raise Told(0, "\n".join([f"generated {size}", f"{word} {first} {last}", f"verified {judged.steps}"]))
 
 
-JUDGES = {"simplify": simplify, "check": check, "annotate": annotate, "rebuild": rebuild, "refute": refute, "validate": validate,
-          "miter": miter, "solve": solve, "extract": extract, "disprove": disprove, "certified": certified, "apply": apply, "gen": gen, "demo": demo}
+# the function of each command's name
+JUDGES = {verb: globals()[verb] for verb in READS}
 
 
 def judge(case, answer):

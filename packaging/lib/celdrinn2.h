@@ -50,9 +50,8 @@ struct celdrinn_options {
     uint32_t binary;         /* disprove, 1: what could be a text is read as a binary proof */
     uint64_t seed;           /* gen */
     uint32_t clauses;        /* gen: 1 to 100000 */
-    uint32_t plain;          /* simplify, 1: no step over which refute carries nothing back */
 };
-#define CELDRINN_OPTIONS {sizeof(struct celdrinn_options), 0, 16, UINT64_MAX, 0, 0, 0, 0, 1, 1, 0}
+#define CELDRINN_OPTIONS {sizeof(struct celdrinn_options), 0, 16, UINT64_MAX, 0, 0, 0, 0, 1, 1}
 int celdrinn_set_options(celdrinn *, const struct celdrinn_options *); /* 64: one is out of range, or not known here */
 /* one of them by its name, but `part` and `parts` */
 int celdrinn_set(celdrinn *, const char *option, uint64_t value);

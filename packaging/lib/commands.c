@@ -10,14 +10,14 @@
 #include <sys/mman.h>
 
 /* the options of a command */
-enum { GROW = 1, EXPAND = 2, BUDGET = 4, PART = 8, FLAG_HERBRAND = 16, FLAG_BINARY = 32, SCALE = 64, PLAIN = 128 };
+enum { GROW = 1, EXPAND = 2, BUDGET = 4, PART = 8, FLAG_HERBRAND = 16, FLAG_BINARY = 32, SCALE = 64 };
 
 static const struct command {
     const char *word;
     enum file_name reads[5], makes[4]; /* up to NO_FILE, in the order of the words */
     int takes;
 } commands[] = {
-    {"simplify", {IN}, {OUT, LOG}, GROW | EXPAND | BUDGET | PLAIN},
+    {"simplify", {IN}, {OUT, LOG}, GROW | EXPAND | BUDGET},
     {"check", {IN, OUT, LOG}, {NO_FILE}, PART},
     {"rebuild", {IN, OUT, LOG, SKOLEM}, {CERT}, 0},
     {"refute", {IN, OUT, LOG, HERBRAND}, {CERT}, 0},
@@ -36,7 +36,7 @@ static const struct celdrinn_options defaults = CELDRINN_OPTIONS;
 
 static int are_right(const struct celdrinn_options *o) {
     return o->grow <= 10000 && o->expand <= 10000 && (o->parts == 0 || (o->part >= 1 && o->part <= o->parts)) && o->herbrand <= 1 &&
-           o->binary <= 1 && o->plain <= 1 && o->clauses >= 1 && o->clauses <= 100000;
+           o->binary <= 1 && o->clauses >= 1 && o->clauses <= 100000;
 }
 int celdrinn_set_options(celdrinn *c, const struct celdrinn_options *given) {
     struct celdrinn_options o = defaults;
@@ -58,7 +58,6 @@ static void set(struct celdrinn_options *o, const char *name, uint64_t value) {
     else if (!strcmp(name, "expand")) o->expand = most;
     else if (!strcmp(name, "herbrand")) o->herbrand = most;
     else if (!strcmp(name, "binary")) o->binary = most;
-    else if (!strcmp(name, "plain")) o->plain = most;
     else if (!strcmp(name, "clauses")) o->clauses = most;
     else o->size = 0;
 }
@@ -96,7 +95,6 @@ static void add_options(struct job *j, int takes, const struct celdrinn_options 
     if (takes & GROW && o->grow != defaults.grow) add_number(j, "--grow=", o->grow);
     if (takes & EXPAND && o->expand != defaults.expand) add_number(j, "--expand=", o->expand);
     if (takes & BUDGET && o->budget != defaults.budget) add_number(j, "--budget=", o->budget);
-    if (takes & PLAIN && o->plain) add_word(j, "--plain");
     if (takes & FLAG_HERBRAND && o->herbrand) add_word(j, "--herbrand");
     if (takes & FLAG_BINARY && o->binary) add_word(j, "--binary");
     if (takes & PART && o->parts) {

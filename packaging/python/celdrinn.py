@@ -376,7 +376,9 @@ def _run(verb: str, texts: Sequence[bytes], seconds: Optional[float], **options:
         least, most = _RANGES.get(name, (0, 1))
         if not least <= value <= most:
             raise FormulaError(f"{name}={value} is out of range", 64)
-    return (_library() or _program()).run(verb, texts, chosen, seconds)
+    # the library has no alarm, by which a plain run ends
+    player = _program() if chosen.get("plain") else _library() or _program()
+    return player.run(verb, texts, chosen, seconds)
 
 
 def _source(clauses: Union[Clauses, bytes], prefix: Prefix) -> bytes:
@@ -448,7 +450,7 @@ def simplify(clauses: Union[Clauses, bytes], prefix: Prefix = (), *, grow: Optio
     first, Stopped is raised; with the library its `result` has what was done until then."""
     source = _source(clauses, prefix)
     answer = _run("simplify", [source], seconds, grow=grow, expand=expand, budget=budget, plain=plain)
-    is_stopped = answer.line.startswith("stopped")
+    is_stopped = answer.line.startswith("stopped:")
     if not is_stopped or answer.status != 2:
         answer.wanted(0, 2, 10, 20)
     result = Simplified(answer.line.split()[0].rstrip(":"), answer.line, source, answer.files["OUT"], answer.files["LOG"])

@@ -109,8 +109,14 @@ class Folder:
         return done.returncode, done.stdout.decode("utf-8", "replace").removesuffix("\n")
 
 
-# how many names each command reads; what it writes may be read by a later line of the row
-READS = {"check": 3, "annotate": 3, "rebuild": 4, "refute": 4, "validate": 2, "disprove": 2, "miter": 2, "extract": 2, "apply": 2, "simplify": 1, "solve": 1}
+def names_read():
+    """How many names each command reads, by the table of words; what it writes may be read by a later line of the row."""
+    with open(os.path.join(os.path.dirname(os.path.realpath(__file__)), "../../launcher/words.txt"), encoding="utf-8") as table:
+        commands = [line.split("|") for line in table if re.match(r"[a-z]+ \|", line)]
+    return {word.strip(): operands.count("<") for word, operands, *_ in commands}
+
+
+READS = names_read()
 
 
 class Pipes:

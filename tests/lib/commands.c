@@ -86,6 +86,17 @@ static void play_annotate(void) {
     PASS();
 }
 
+static void play_apply(void) {
+    row = "apply: the formula behind a log, behind its whole steps, and none";
+    celdrinn *c = with(DIFFER);
+    WANT(c != NULL && put(c, "LOG", "d 2 1 0\n") == 0 && celdrinn_do(c, "apply") == 0 && strcmp(celdrinn_line(c), "applied 1") == 0);
+    WANT(holds_text(c, "OUT", "p cnf 2 1\na 1 0\ne 2 0\n-1 -2 0\n"));
+    WANT(put(c, "LOG", "d 2 1 0\nd -1") == 0 && celdrinn_do(c, "apply") == 0 && strcmp(celdrinn_line(c), "applied 1 broken line 2") == 0);
+    WANT(put(c, "LOG", "d 1 0\n") == 0 && celdrinn_do(c, "apply") == CELDRINN_REFUSED && !is_there(c, "OUT"));
+    celdrinn_free(c);
+    PASS();
+}
+
 static void play_proofs(void) {
     row = "disprove: a proof, none, and a part of one";
     celdrinn *c = with("p cnf 1 2\n1 0\n-1 0\n");
@@ -263,6 +274,7 @@ void play_commands(void) {
     play_judges();
     play_solve();
     play_annotate();
+    play_apply();
     play_proofs();
     play_traces();
     play_miter();
@@ -284,6 +296,7 @@ static int on_true(celdrinn *c) {
     if (!status) status = celdrinn_set(c, "grow", 8);
     if (!status) status = step(c, "simplify", CELDRINN_TRUE);
     if (!status) status = step(c, "check", 0);
+    if (!status) status = step(c, "apply", 0);
     if (!status) status = step(c, "annotate", 0);
     if (!status) status = step(c, "rebuild", 0);
     if (!status) status = step(c, "validate", 0);

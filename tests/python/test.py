@@ -148,6 +148,7 @@ def play_commands():
         assert call(celdrinn.disprove, b"p cnf 1 2\n1 0\n-1 0\n", b"0\n") == 1, "disprove"
         assert call(celdrinn.disprove, b"p cnf 1 2\n1 0\n-1 0\n", b"a\0", binary=True) == 1, "binary"
         assert not has_model(call(celdrinn.miter, differ, inverse)) and has_model(call(celdrinn.miter, differ, equal)), "miter"
+        assert call(celdrinn.apply, differ, b"d 2 1 0\n") == b"p cnf 2 1\na 1 0\ne 2 0\n-1 -2 0\n", "apply"
         refuted = call(celdrinn.simplify, false)
         herbrand = call(celdrinn.refute, refuted.source, refuted.out, refuted.log, b"aag 0 0 0 0 0\n")
         assert refuted.truth is False and herbrand({})[1] is False, "refute"

@@ -45,6 +45,9 @@ ending-not ending.False s (inr (inr h)) e = cc
 ending-not ending.Spent s (inl h) e = cc
 ending-not ending.Spent s (inr (inl h)) e = cc
 ending-not ending.Spent s (inr (inr h)) e = cc
+ending-not ending.Stopped s (inl h) e = cc
+ending-not ending.Stopped s (inr (inl h)) e = cc
+ending-not ending.Stopped s (inr (inr h)) e = cc
 
 pub simplify-usage : (o : Simplified) → status_of_simplified o ≢ status.Usage
 simplify-usage (simplified.Written r) e = ending-not r.ending status.Usage (inl refl) e

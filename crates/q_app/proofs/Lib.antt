@@ -17,4 +17,5 @@ pub mod FaultFree
 pub mod DemoPasses
 pub mod RunPromise
 pub mod StoppedFiles
+pub mod SimplifyTurns
 pub mod StoppedRequests

@@ -1,11 +1,14 @@
 -- What `rebuild` leaves, from its parts.
 use Rattle.std.proofs.Common.{◌≡◌, ◌⊎◌, inl, inr, refl, ℕ, List, true, false, subst, Option, Some, None, IfSome}
 use Rattle.q_logic.specs.Prelude.{CertificateView, PrenexFormula}
+use Rattle.std.proofs.lemmas.Option.{IfSome_then}
 use Rattle.q_io.specs.Files.{Disk, bytes_at}
-use Rattle.q_command.specs.Checks.{FilesPass}
+use Rattle.q_command.specs.Checks.{FilesPass, IsVerified}
 use Rattle.q_command.specs.declared.audit.Keep.{Keep}
 use Rattle.q_io.specs.declared.error.DeviceError.{DeviceError}
 use Rattle.q_io.specs.declared.error.DeviceError.TheVariants as device
+use Rattle.q_command.specs.declared.outcome.Outcome.{Outcome}
+use Rattle.q_command.specs.declared.outcome.Outcome.TheVariants as outcome
 use Rattle.q_command.specs.declared.circuits.CircuitsError.{CircuitsError}
 use Rattle.q_command.specs.declared.circuits.CircuitsError.TheVariants as unread
 use Rattle.q_command.specs.Texts.{IsNoText, LeavesCircuits, MayHoldCircuits}
@@ -56,6 +59,15 @@ circuits-not_write r h e = subst IsOfCircuits e h
 pub circuits-reading : {A B C D : Type 0} (r : Rebuilt) → IsOfCircuits r → (r ≡ ReadFault → D) → FaultsReading r → A ⊎ B ⊎ C ⊎ D
 circuits-reading r h k (inl e) = inr (inr (inr (k e)))
 circuits-reading r h k (inr e) = absurd (subst IsOfCircuits e h)
+
+pub unverified-reading : (o : Outcome) → FaultsReading (Unverified o) → o ≡ outcome.ReadFault
+unverified-reading o (inl e) = cc
+unverified-reading o (inr e) = cc
+
+-- the log is verified
+pub verified-files : (held : Option Disk) (i o l : List ℕ) (c : Checked) → IfSome held (λ d. FilesPass undo_alone (bytes_at d i) (bytes_at d o) (bytes_at d l) c) → IfSome held (λ d. IsVerified (bytes_at d i) (bytes_at d o) (bytes_at d l))
+verified-files held i o l c p =
+    IfSome_then held p (λ d q. record { from = c.from; to = c.to; is_input = q.is_input; is_output = q.is_output; holds = (q.log.entries, q.log.leads) })
 
 pub joined : (held after : Option Disk) (i o l s t : List ℕ) (c : Checked) (made : CertificateView) (r : Rebuilt) → IfSome held (λ d. FilesPass undo_alone (bytes_at d i) (bytes_at d o) (bytes_at d l) c) → IfSome held (λ d. AreCarried c (bytes_at d s) made) → IfSome held (λ d. Puts r made t d after) → IfSome held (λ d. Rebuilds r (five i o l s t) d after)
 joined None after i o l s t c made r p m q = tt

@@ -28,7 +28,7 @@ requested : (r : Option (List Command)) (cs ds : List Command) → r ≡ Some cs
 requested r cs ds e f = let w : Some cs ≡ Some ds = sym e ∙ f in cc
 
 -- the names of a simplification differ
-differ-in : (k : Parsed) (n : ThreeNames) (o : Options) → IsFit k → commands_of k ≡ simplifying n o ∷ [] → Differ n
+pub differ-in : (k : Parsed) (n : ThreeNames) (o : Options) → IsFit k → commands_of k ≡ simplifying n o ∷ [] → Differ n
 differ-in (Simplify m p) n o f e = let w : three_of m ≡ n = cc in subst (λ (x : ThreeNames). Differ x) w f
 differ-in k n o f e = cc
 

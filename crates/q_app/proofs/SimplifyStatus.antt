@@ -7,7 +7,7 @@ use Rattle.q_simplify.specs.declared.options.Options.{Options}
 use Rattle.q_simplify.specs.declared.report.Report.{Report}
 use Rattle.q_simplify.specs.declared.report.Ending.{Ending}
 use Rattle.q_simplify.specs.declared.report.Ending.TheVariants as ending
-use Rattle.q_simplify.specs.Results.{IsEnoughFor}
+use Rattle.q_simplify.specs.Results.{EndsAs, IsEnoughFor, IsReport}
 use Rattle.q_simplify.proofs.BothFiles.{leaves-whole, never-spent}
 use Rattle.q_app.specs.Statuses.{status_of_ending, status_of_simplified}
 use Rattle.q_command.specs.Names.{ThreeNames}
@@ -21,17 +21,19 @@ use Rattle.q_app.specs.declared.simplified.Simplified.{Simplified}
 use Rattle.q_app.specs.declared.simplified.Simplified.TheVariants.{Written, RefusedInput, ReadFault, WriteFault, NoMemory}
 use Rattle.q_command.proofs.CheckStatus.{one_formula, no_offence}
 
-spent_is : (x : Ending) → status.Spent ≡ status_of_ending x → x ≡ ending.Spent
-spent_is ending.Settled e = cc
-spent_is ending.True e = cc
-spent_is ending.False e = cc
-spent_is ending.Spent e = refl
+spent_is : (x : Ending) (o : Options) (F G : PrenexFormula) → EndsAs x o F G → status.Spent ≡ status_of_ending x → x ≡ ending.Spent
+spent_is ending.Settled o F G h e = cc
+spent_is ending.True o F G h e = cc
+spent_is ending.False o F G h e = cc
+spent_is ending.Spent o F G h e = refl
+spent_is ending.Stopped o F G h e = absurd h
 
 ended_is : (x : Ending) (s : Status) → s ≡ status_of_ending x → IsEnded s
 ended_is ending.Settled s e = inl e
 ended_is ending.True s e = inr (inl e)
 ended_is ending.False s e = inr (inr (inl e))
 ended_is ending.Spent s e = inr (inr (inr e))
+ended_is ending.Stopped s e = inr (inr (inr e))
 
 pub ended-not_refused : (s : Status) → IsEnded s → s ≢ status.InputRefused
 ended-not_refused s (inl e) f = cc
@@ -66,7 +68,7 @@ module _ (answer : Status) (o : Options) (i on ln : List ℕ) (before : Disk) (a
       let d : IsEnded answer = ended_is r.ending answer e in
       record {
         ended = λ x. (r, (F, f, s), e);
-        enough = λ G g n z. never-spent o F s.result r s.report (spent_is r.ending (sym z ∙ e)) (subst (λ (H : PrenexFormula). IsEnoughFor o.budget (measure_of o.bounds H)) (one_formula (bytes_at before i) G F g f) n);
+        enough = λ G g n z. never-spent o F s.result r s.report (spent_is r.ending o F s.result s.report.ending (sym z ∙ e)) (subst (λ (H : PrenexFormula). IsEnoughFor o.budget (measure_of o.bounds H)) (one_formula (bytes_at before i) G F g f) n);
         refused = ((λ x. absurd (ended-not_refused answer d x)), (λ n. absurd (n F f)));
         untouched = λ x. absurd (elim x [ inl y ↦ ended-not_refused answer d y | inr y ↦ ended-not_read answer d y ]);
         left = λ x. absurd (elim x [ inl y ↦ ended-not_write answer d y | inr y ↦ ended-not_memory answer d y ]);
@@ -119,7 +121,7 @@ module _ (answer : Status) (o : Options) (i on ln : List ℕ) (before : Disk) (a
 
   -- what stands where the line could not be put
   stands : (due : Simplified) → Ends due o i on ln before after → (after ≡ Some before) ⊎ IsLeft i on ln before after
-  stands (Written r) (F, f, s) = inr (F, f, leaves-whole o F r on ln before after s)
+  stands (Written r) (F, f, s) = inr (F, f, leaves-whole (λ (G : PrenexFormula). IsReport o F r G) F on ln before after s)
   stands (RefusedInput n c) h = inl h.1
   stands ReadFault h = inl h
   stands WriteFault h = inr h

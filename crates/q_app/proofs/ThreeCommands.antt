@@ -24,7 +24,7 @@ use Rattle.q_command.specs.declared.status.Status.TheVariants as status
 use Rattle.q_command.proofs.CheckStatus.{one_formula}
 use Rattle.q_app.proofs.VerifiedFiles.{AreReread, verified}
 
-accepted-by-check : (input output log : List ℕ) → IsVerified input output log → IsAcceptedByCheck input output log
+pub accepted-by-check : (input output log : List ℕ) → IsVerified input output log → IsAcceptedByCheck input output log
 accepted-by-check input output log v answer a = a.verified.1 v
 
 -- how it ended, by its status
@@ -33,12 +33,14 @@ ended-spent ending.Settled o F G h e = cc
 ended-spent ending.True o F G h e = cc
 ended-spent ending.False o F G h e = cc
 ended-spent ending.Spent o F G h e = h.1
+ended-spent ending.Stopped o F G h e = absurd h
 
 ended-settled : (x : Ending) (o : Options) (F G : PrenexFormula) → EndsAs x o F G → status_of_ending x ≢ status.Spent → IsSettled o.bounds G
 ended-settled ending.Settled o F G h n = h.0
 ended-settled ending.True o F G h n = h.0
 ended-settled ending.False o F G h n = h.0
 ended-settled ending.Spent o F G h n = absurd (n refl)
+ended-settled ending.Stopped o F G h n = absurd h
 
 -- OUT and LOG are written
 left-written : AreReread → (answer : Status) (r : Report) (o : Options) (F : PrenexFormula) (input output log : List ℕ) (before : Disk) (after : Option Disk) → input ≢ output → input ≢ log → IsFileOf (bytes_at before input) F → answer ≡ status_of_ending r.ending → Simplifies o F r output log before after → (disk : Disk) × (after ≡ Some disk) × IsSimplified answer o F input output log disk

@@ -2,6 +2,7 @@
 use Rattle.std.specs.Prelude.{◌≡◌, ◌⊎◌, ℕ, List, [], ◌∷◌, ◌++◌, codes, decimal, Option}
 use Rattle.q_io.specs.Files.{Disk}
 use Rattle.q_gen.specs.Outputs.{HoldsGenerated, HoldsGeneratedPart}
+use Rattle.q_command.specs.FirstFaults.{untold}
 use Rattle.q_command.specs.Told.{Told, OrNoMemory}
 use Rattle.q_app.specs.declared.words.Scale.{Scale}
 use Rattle.q_app.specs.declared.generated.Generated.{Generated}
@@ -41,4 +42,6 @@ told k name = record {
   answers = λ disk given. OrNoMemory given status.Done;
   reads = [];
   writes = name ∷ [];
+  reads_at = [];
+  writes_at = untold (name ∷ []);
 }

@@ -31,6 +31,14 @@ pub record IsSimplified (answer : Status) (o : Options) (F : PrenexFormula) (inp
   pub accepted : length (bytes_at after log) ≤ 1099511627776 →
       IsAcceptedByCheck (bytes_at after input) (bytes_at after output) (bytes_at after log)
 
+-- what a simplification that an alarm stopped leaves of the formula F of IN, whatever the line says: the same but for its ending
+pub record IsCarried (F : PrenexFormula) (input output log : List ℕ) (after : Disk) : Type 0 where
+  pub to : PrenexFormula
+  pub is_output : IsFileOf (bytes_at after output) to
+  pub truth : Holds F ↔ Holds to
+  pub accepted : length (bytes_at after log) ≤ 1099511627776 →
+      IsAcceptedByCheck (bytes_at after input) (bytes_at after output) (bytes_at after log)
+
 -- `simplify` of the formula F of IN ends, faults and want of memory aside, and leaves this
 pub record EndsRight (answer : Status) (o : Options) (F : PrenexFormula) (input output log : List ℕ) (after : Option Disk) : Type 0 where
   pub ends : IsEnded answer ⊎ MayCome answer

@@ -11,6 +11,7 @@ word_of ending.Settled = codes "settled "
 word_of ending.True = codes "true "
 word_of ending.False = codes "false "
 word_of ending.Spent = codes "spent "
+word_of ending.Stopped = codes "stopped "
 
 -- the measures of the input and of the result
 abbrev pub line_of_report : Report → List ℕ

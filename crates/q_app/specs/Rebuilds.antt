@@ -14,11 +14,13 @@ use Rattle.q_command.specs.declared.unfit.Unfit.{Unfit}
 use Rattle.q_command.specs.declared.unfit.Unfit.TheVariants as unfit
 use Rattle.q_command.specs.declared.circuits.CircuitsError.{CircuitsError}
 use Rattle.q_command.specs.declared.circuits.CircuitsError.TheVariants as unread
+use Rattle.q_command.specs.FirstFaults.{Turn, untold, where_so}
+use Rattle.q_command.specs.Names.{ThreeNames, three}
 use Rattle.q_command.specs.Texts.{HoldsCircuits, MayHoldCircuits}
 use Rattle.q_command.specs.Told.{Told, OrNoMemory}
 use Rattle.q_rebuild.specs.declared.error.RebuildError.{RebuildError}
 use Rattle.q_rebuild.specs.declared.error.RebuildError.TheVariants as refusal
-use Rattle.q_command.specs.Checks.{Checks, IsFileOf, IsNoFormula, IsNoRun, IsUnverified, IsVerified, LogPasses, Exactly, MayCome}
+use Rattle.q_command.specs.Checks.{Checks, IsFileOf, IsNoFormula, IsNoRun, IsUnverified, IsVerified, LogPasses, Exactly, MayCome, turns_and}
 use Rattle.q_command.specs.declared.checking.Checked.{Checked}
 use Rattle.q_command.specs.declared.outcome.Outcome.TheVariants as outcome
 use Rattle.q_command.specs.declared.status.Status.{Status}
@@ -102,6 +104,16 @@ five i o l s c = record { input = i; output = o; log = l; skolem = s; cert = c }
 -- the names of the files that are read
 abbrev pub names_read : FiveNames → List (List ℕ)
 names_read n = n.input ∷ n.output ∷ n.log ∷ n.skolem ∷ []
+
+-- SKOLEM is read behind the three files of the log, where the log is verified
+abbrev pub three_read : FiveNames → ThreeNames
+three_read n = three n.input n.output n.log
+
+abbrev pub skolem_turn : FiveNames → Turn
+skolem_turn n = where_so (λ disk. IsVerified (bytes_at disk n.input) (bytes_at disk n.output) (bytes_at disk n.log)) n.skolem
+
+abbrev pub turns_read : FiveNames → List Turn
+turns_read n = turns_and (three_read n) (skolem_turn n)
 
 -- the names of the files that are written
 abbrev pub names_written : FiveNames → List (List ℕ)
@@ -224,4 +236,6 @@ told n = record {
   answers = λ disk given. AreFitting n disk → OrNoMemory given status.Done;
   reads = names_read n;
   writes = names_written n;
+  reads_at = turns_read n;
+  writes_at = untold (names_written n);
 }

@@ -5,10 +5,11 @@ use Rattle.q_io.specs.Files.{Disk, bytes_at}
 use Rattle.q_dimacs.specs.Offences.{Offence}
 use Rattle.q_simplify.specs.declared.options.Options.{Options}
 use Rattle.q_simplify.specs.declared.report.Report.{Report}
-use Rattle.q_simplify.specs.Results.{IsEnoughFor, Simplifies, Leaves}
+use Rattle.q_simplify.specs.Results.{IsEnoughFor, LogStands, Simplifies, SimplifiesPart, Leaves}
 use Rattle.q_command.specs.Checks.{IsFileOf, IsNoFormula, Exactly, MayCome}
 use Rattle.q_command.specs.Names.{ThreeNames}
-use Rattle.q_command.specs.Told.{Told}
+use Rattle.q_command.specs.FirstFaults.{Turn, first_of, untold}
+use Rattle.q_command.specs.Told.{Told, OrNoMemory}
 use Rattle.q_app.specs.Lines.{line_of_simplified}
 use Rattle.q_app.specs.Statuses.{status_of_ending, status_of_simplified}
 use Rattle.q_command.specs.declared.status.Status.{Status}
@@ -25,6 +26,17 @@ IsWritten r o input output log before after =
 abbrev pub IsLeft : List ℕ → List ℕ → List ℕ → Disk → Option Disk → Type 0
 IsLeft input output log before after =
     (F : PrenexFormula) × IsFileOf (bytes_at before input) F × Leaves F output log before after
+
+-- LOG is whole: it has the text of steps that lead from the formula of the input
+abbrev pub IsLogged : ThreeNames → Disk → Option Disk → Type 0
+IsLogged n before after = (F : PrenexFormula) × IsFileOf (bytes_at before n.input) F × LogStands F n.log after
+
+-- LOG is written first, and OUT where LOG is whole
+abbrev pub output_turn : ThreeNames → Turn
+output_turn n = record { name = n.output; reached = IsLogged n }
+
+abbrev pub turns_written : ThreeNames → List Turn
+turns_written n = first_of n.log ∷ output_turn n ∷ []
 
 -- what there is to say, and what the files hold then
 abbrev pub Ends : Simplified → Options → List ℕ → List ℕ → List ℕ → Disk → Option Disk → Type 0
@@ -65,4 +77,39 @@ told n o = record {
       (IsEnded given ⊎ (given ≡ status.NoMemory)) × (IsEnoughFor o.budget (measure_of o.bounds F) → given ≢ status.Spent);
   reads = n.input ∷ [];
   writes = n.output ∷ n.log ∷ [];
+  reads_at = untold (n.input ∷ []);
+  writes_at = turns_written n;
+}
+
+-- the file of the input holds a formula, and OUT and LOG hold what a run that an alarm stopped has made of it, and the steps
+abbrev pub IsCutOff : Report → Options → List ℕ → List ℕ → List ℕ → Disk → Option Disk → Type 0
+IsCutOff r o input output log before after =
+    (F : PrenexFormula) × IsFileOf (bytes_at before input) F × SimplifiesPart o F r output log before after
+
+-- what there is to say of such a run: what it has written
+abbrev pub Stops : Simplified → Options → List ℕ → List ℕ → List ℕ → Disk → Option Disk → Type 0
+Stops (Written r) o input output log before after = IsCutOff r o input output log before after
+Stops (RefusedInput n c) o input output log before after = ⊥
+Stops ReadFault o input output log before after = ⊥
+Stops WriteFault o input output log before after = ⊥
+Stops NoMemory o input output log before after = ⊥
+
+-- its statuses, and what the files hold then
+pub record StopsExactly (answer : Status) (o : Options) (input output log : List ℕ) (before : Disk) (after : Option Disk) : Type 0 where
+  pub written : (r : Report) × IsCutOff r o input output log before after
+  pub any : (answer ≡ status.Spent) ⊎ MayCome answer
+
+-- the command, where an alarm stops it
+abbrev pub told_stopped : ThreeNames → Options → Told
+told_stopped n o = record {
+  Outcome = Simplified;
+  status_of = status_of_simplified;
+  line_of = line_of_simplified;
+  says = λ due disk after. Stops due o n.input n.output n.log disk after;
+  gives = λ given disk after. StopsExactly given o n.input n.output n.log disk after;
+  answers = λ disk given. OrNoMemory given status.Spent;
+  reads = n.input ∷ [];
+  writes = n.output ∷ n.log ∷ [];
+  reads_at = untold (n.input ∷ []);
+  writes_at = turns_written n;
 }

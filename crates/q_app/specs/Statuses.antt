@@ -11,6 +11,7 @@ status_of_ending ending.Settled = status.Done
 status_of_ending ending.True = status.True
 status_of_ending ending.False = status.False
 status_of_ending ending.Spent = status.Spent
+status_of_ending ending.Stopped = status.Spent
 
 abbrev pub status_of_simplified : Simplified → Status
 status_of_simplified (simplified.Written r) = status_of_ending r.ending

@@ -13,7 +13,7 @@ use Rattle.q_run_validate.specs.Validates as validate
 use Rattle.q_run_extract.specs.Extracts as extract
 use Rattle.q_run_miter.specs.Mitering as miter
 use Rattle.q_app.specs.Words.{Command, checking, sharing, simplifying, rebuilding, generating, solving, annotating, annotating_part, refuting, validating, mitering, extracting, disproving, disproving_part}
-use Rattle.q_run_disprove.specs.Disproofs as disprove
+use Rattle.q_run_disprove.specs.HintedDisproofs as disprove
 use Rattle.q_run_disprove.specs.SharedDisproofs as disproved_part
 use Rattle.q_run_disprove.specs.Certifying as certify
 use Rattle.q_run_apply.specs.Applications as apply

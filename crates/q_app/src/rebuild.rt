@@ -2,10 +2,11 @@
 // carried back, and the circuits of IN are written. Nothing is created before all refusals are past.
 ghost use Rattle.std.specs.Prelude.{◌≡◌, IfOk, IfErr, IfSome, IsErrOf, true};
 ghost use Rattle.q_io.specs.Files.{RoseAmong, RoseFor, bytes_at};
+ghost use Rattle.q_command.specs.FirstFaults.{FaultAt};
 ghost use Rattle.q_command.specs.Reading.{OnlyReadsFiles};
 ghost use Rattle.q_command.specs.Checks.{LeadsBack};
 ghost use Rattle.q_app.specs.Commands.{five_of};
-ghost use Rattle.q_app.specs.Rebuilds.{AreCarried, CircuitsFail, FaultsReading, IsOfCircuits, Puts, Rebuilds, failed_write as write_failed, no_circuits, refused_circuits as circuits_refused, names_read};
+ghost use Rattle.q_app.specs.Rebuilds.{AreCarried, CircuitsFail, FaultsReading, IsOfCircuits, Puts, Rebuilds, failed_write as write_failed, no_circuits, refused_circuits as circuits_refused, names_read, turns_read};
 
 use crate::rebuild_words::RebuildNames;
 use crate::rebuilt::Rebuilt;
@@ -113,6 +114,9 @@ pub(crate) fn rebuild_files<F: Files>(alloc: Global, files: &mut F, names: Rebui
         Rebuilds result (five_of names.entry) disk (F.held files.new)) }
     ensures read_fault { FaultsReading result
         → RoseAmong F.read_faults (names_read (five_of names.entry)) files.old files.new }
+    ensures read_fault_at { FaultsReading result
+        → FaultAt F.read_faults (turns_read (five_of names.entry))
+        (F.held files.old) (F.held files.new) files.old files.new }
     ensures write_fault { result ≡ Rebuilt.WriteFault
         → RoseFor F.write_faults names.entry.cert.now files.old files.new }
 {

@@ -28,6 +28,7 @@ fn status_of(ending: Ending) -> Status
         Ending::True => Status::True,
         Ending::False => Status::False,
         Ending::Spent => Status::Spent,
+        Ending::Stopped => Status::Spent,
     }
 }
 
@@ -73,5 +74,6 @@ fn measures(report: Report) -> Line
         Ending::True => numbers_line("true ", report.before, " ", report.after),
         Ending::False => numbers_line("false ", report.before, " ", report.after),
         Ending::Spent => numbers_line("spent ", report.before, " ", report.after),
+        Ending::Stopped => numbers_line("stopped ", report.before, " ", report.after),
     }
 }

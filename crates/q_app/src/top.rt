@@ -7,9 +7,11 @@ ghost use Rattle.q_app.specs.Commands.{IsFit, commands_of, five_of, is_plain as 
 ghost use Rattle.q_app.specs.Operands.{Differ, texts};
 ghost use Rattle.q_app.specs.Promises.{AnswerComes, DemoPasses, SimplifyEnds};
 ghost use Rattle.q_app.specs.Says.{Does, InTurn};
-ghost use Rattle.q_app.specs.Stopping.{AlarmKeeps, DoesUntil, IsSetAndHeard, KeepsUntil, UnderSome};
+ghost use Rattle.q_app.specs.Stopping.{AlarmKeeps, DoesUntil, IsSetAndHeard, KeepsUntil};
+ghost use Rattle.q_app.specs.Simplifying.{told_stopped};
+ghost use Rattle.q_sched.specs.Alarms.{UnlessRung};
 ghost use Rattle.q_app.specs.Told.{told};
-ghost use Rattle.q_simplify.specs.AlarmViews.{view_alarm};
+ghost use Rattle.q_sched.specs.AlarmViews.{view_alarm};
 ghost use Rattle.q_app.specs.Words.{checking, sharing, demo, generating, rebuilding, simplifying};
 
 use crate::gen_file::generate_file;
@@ -93,10 +95,13 @@ fn run_simplify<F: Files, S: Sink, A: Alarm>(
     alarm: &mut A,
 ) -> Status
     requires names { Differ (three_of asked.names) }
-    ensures runs { UnderSome (λ p. Runs (told (simplifying (three_of asked.entry.names) p))
+    ensures runs { UnlessRung (view_alarm A.Alarm alarm.old) (view_alarm A.Alarm alarm.new)
+        (Runs (told (simplifying (three_of asked.entry.names) asked.entry.options))
         (devices F.Files S.Sink files.old out.old) result
-        (devices F.Files S.Sink files.new out.new)) (view_alarm A.Alarm alarm.old)
-        (view_alarm A.Alarm alarm.new) asked.entry.options }
+        (devices F.Files S.Sink files.new out.new))
+        (Runs (told_stopped (three_of asked.entry.names) asked.entry.options)
+        (devices F.Files S.Sink files.old out.old) result
+        (devices F.Files S.Sink files.new out.new)) }
     ensures alarm { IsSetAndHeard asked.entry.watch.seconds asked.entry.watch.plain result
         (view_alarm A.Alarm alarm.old) (view_alarm A.Alarm alarm.new) }
     ensures later { AreLater
@@ -230,8 +235,8 @@ fn run_command<F: Files, S: Sink, A: Alarm>(
 /// Does what the words ask, one command after the other, over these files, with one line for each command put into the
 /// sink. Main hands in the disk, standard output and the words after the
 /// program's name. The guides serve `simplify`: they are asked which target is tried next, and what is proved holds for
-/// every list of them. The alarm serves the command `simplify` too: it is set as the words say, and asked before each turn. Where it
-/// rings, the run stops there, and is one under the budget that is spent there.
+/// every list of them. The alarm serves the command `simplify` too: it is set as the words say, and asked before each turn and within
+/// long searches. Where it rings, the run stops there.
 pub fn run<F: Files, S: Sink, A: Alarm>(
     alloc: Global,
     words: &[String],
@@ -245,9 +250,10 @@ pub fn run<F: Files, S: Sink, A: Alarm>(
     ensures no_command { request (texts words.now) ≡ None
         → (result ≡ Status.Usage) ⊎ (result ≡ Status.WriteFault) ⊎ (result ≡ Status.NoMemory) }
 
-    // There is a budget of `simplify`, the given one unless the alarm rang, under which all is as without an alarm: when each status
-    // comes, what the files hold then, which faults are answered and which lines are put; that `simplify` ends, memory and faults
-    // aside; that each command answers, and `demo` passes, where no fault comes, or memory is wanting.
+    // Unless the alarm rang, all is as without one: when each status comes, what the files hold then, which faults are answered and
+    // which lines are put; that `simplify` ends, memory and faults aside; that each command answers, and `demo` passes, where no fault
+    // comes, or memory is wanting. Where it rang, that may be so too, or else `simplify` says that it was stopped, and nothing of
+    // whether a target is left: OUT and LOG are those of a run under the budget that is just spent there.
     ensures keeps { KeepsUntil (view_alarm A.Alarm alarm.old) (view_alarm A.Alarm alarm.new)
         (request (texts words.now)) (devices F.Files S.Sink files.old out.old) result
         (devices F.Files S.Sink files.new out.new) }

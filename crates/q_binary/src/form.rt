@@ -1,12 +1,13 @@
-//! A proof in either form: a log, or a binary proof. The first two bytes tell.
+//! A proof in either form: a log of either profile, or a binary proof. The first two bytes tell.
 ghost use Rattle.std.specs.Prelude.{◌≡◌, ◌≤◌, ◌<◌, ◌+◌, ◌^◌, [], length, List, ℕ, IfOk, IfErr};
-ghost use Rattle.q_log.specs.Reading.{Ends};
+ghost use Rattle.q_hinted.specs.Reading.{Ends};
 ghost use Rattle.q_text.specs.Words.{is_separator};
-ghost use Rattle.q_binary.specs.Forms.{Begins, IsOfOne, Passes, left_of, read_proof, to_come};
+ghost use Rattle.q_binary.specs.Forms.{Begins, IsOfEnd, IsOfOne, Passes, as_entry as entry_of_step, left_of, read_proof, to_come};
 
 use crate::reader::BinaryReader;
-use q_log::{LogError, LogReader};
-use q_logic::Step;
+use q_hinted::{BothReader, Entry};
+use q_log::LogError;
+use q_logic::{Proof, Step};
 use std::alloc::Global;
 use std::marker::Model;
 
@@ -19,10 +20,10 @@ pub enum Form {
     Binary,
 }
 
-/// Reads a proof in either form, and hands out its steps, each with its line or its number.
+/// Reads a proof in either form, and hands out its steps, each with its line or its number, and with its proof part where it has one.
 #[derive(Drop)]
 pub struct ProofReader {
-    text: LogReader,
+    text: BothReader,
     binary: BinaryReader,
     form: Form,
 }
@@ -44,14 +45,32 @@ fn is_blank(byte: u8) -> bool
     matches!(byte, b'\n' | b' ' | b'\t' | b'\r')
 }
 
+// A step without a proof part.
+fn as_entry(step: Option<(u64, Step)>) -> Option<Entry>
+    ensures { result ≡ entry_of_step step }
+{
+    match step {
+        Some((number, step)) => Some((number, step, None)),
+        None => None,
+    }
+}
+
 // A step that one byte ends.
-fn of_one(
-    answer: Result<Option<(u64, Step)>, LogError>,
-) -> Result<(usize, Option<(u64, Step)>), LogError>
+fn of_one(answer: Result<Option<(u64, Step)>, LogError>) -> Result<(usize, Option<Entry>), LogError>
     ensures { IsOfOne answer result }
 {
     match answer {
-        Ok(step) => Ok((1, step)),
+        Ok(step) => Ok((1, as_entry(step))),
+        Err(error) => Err(error),
+    }
+}
+
+// A step that the end makes whole.
+fn of_end(answer: Result<Option<(u64, Step)>, LogError>) -> Result<Option<Entry>, LogError>
+    ensures { IsOfEnd answer result }
+{
+    match answer {
+        Ok(step) => Ok(as_entry(step)),
         Err(error) => Err(error),
     }
 }
@@ -65,7 +84,7 @@ impl ProofReader {
         ensures left { IfOk result (λ r. left_of r ≡ bytes) }
         ensures err { IfErr result (λ e. e ≡ LogError.NoMemory) }
     {
-        let text = LogReader::new(alloc, bytes)?;
+        let text = BothReader::new(alloc, bytes)?;
         let form = if binary { Form::Binary } else { Form::Unread };
         Ok(ProofReader {
             text,
@@ -76,7 +95,7 @@ impl ProofReader {
 
     /// Takes some bytes at the front of the piece, of which only the last may end a step: how many they are, and the step
     /// that it ends.
-    pub fn next(&mut self, piece: &[u8]) -> Result<(usize, Option<(u64, Step)>), LogError>
+    pub fn next(&mut self, piece: &[u8]) -> Result<(usize, Option<Entry>), LogError>
         requires some { 0 < length piece.now }
         ensures within { IfOk result (λ r. (0 < r.0) × (r.0 ≤ length piece.now)) }
         ensures next { Passes result self.old self.new piece.now }
@@ -91,7 +110,7 @@ impl ProofReader {
     }
 
     // The first byte.
-    fn first(&mut self, piece: &[u8]) -> Result<(usize, Option<(u64, Step)>), LogError>
+    fn first(&mut self, piece: &[u8]) -> Result<(usize, Option<Entry>), LogError>
         requires some { 0 < length piece.now }
         requires unread { self.old.form ≡ Form.Unread }
         ensures within { IfOk result (λ r. (0 < r.0) × (r.0 ≤ length piece.now)) }
@@ -112,7 +131,7 @@ impl ProofReader {
     }
 
     // A `d` as the first byte: it may begin a step of either form.
-    fn begin(&mut self) -> Result<(usize, Option<(u64, Step)>), LogError>
+    fn begin(&mut self) -> Result<(usize, Option<Entry>), LogError>
         requires unread { self.old.form ≡ Form.Unread }
         ensures begun { Begins result self.old self.new }
     {
@@ -129,7 +148,7 @@ impl ProofReader {
     }
 
     // The byte behind a `d`.
-    fn second(&mut self, piece: &[u8]) -> Result<(usize, Option<(u64, Step)>), LogError>
+    fn second(&mut self, piece: &[u8]) -> Result<(usize, Option<Entry>), LogError>
         requires some { 0 < length piece.now }
         requires begun { self.old.form ≡ Form.Begun }
         ensures within { IfOk result (λ r. (0 < r.0) × (r.0 ≤ length piece.now)) }
@@ -145,23 +164,23 @@ impl ProofReader {
     }
 
     /// The step that the end of the bytes makes whole, if it makes one.
-    pub fn finish(self) -> Result<Option<(u64, Step)>, LogError>
+    pub fn finish(self) -> Result<Option<Entry>, LogError>
         ensures end { Ends result (to_come self []) }
     {
         let ProofReader { text, binary, form } = self;
         match form {
-            Form::Binary => binary.finish(),
+            Form::Binary => of_end(binary.finish()),
             _ => text.finish(),
         }
     }
 
-    /// Keeps the memory of a step that was handed out for a later one.
-    pub fn keep(&mut self, step: Step)
+    /// Keeps the memory of a step and a proof part that were handed out for later ones.
+    pub fn keep(&mut self, step: Step, proof: Option<Proof>)
         ensures { self.new ≡ self.old }
     {
         match self.form {
             Form::Binary => self.binary.keep(step),
-            _ => self.text.keep(step),
+            _ => self.text.keep(step, proof),
         }
     }
 }

@@ -1,4 +1,4 @@
-//! Binary proofs of SAT solvers, and proofs that are logs or binary. A step is handed out at the byte that ends it, so a proof may be
+//! Binary proofs of SAT solvers, and proofs that are logs of either profile or binary. A step is handed out at the byte that ends it, so a proof may be
 //! cut anywhere.
 #![tactic(auto)]
 

@@ -1,5 +1,5 @@
 -- What a search for targets has seen.
-use Rattle.std.proofs.Common.{◌≡◌, ◌≤◌, ℕ, true, false, Option, Some, None, refl, sym, ◌∙◌, ap, List, subst, true≢false}
+use Rattle.std.proofs.Common.{◌≡◌, ◌≤◌, ℕ, true, false, Option, Some, None, Result, Ok, Err, IfOk, refl, sym, ◌∙◌, ap, List, subst, true≢false}
 use Rattle.std.specs.Option.{is_some}
 use Rattle.std.proofs.lemmas.Option.{same_Some}
 use Rattle.q_logic.specs.declared.rule_bounds.Bounds.{Bounds}
@@ -7,20 +7,20 @@ use Rattle.q_logic.specs.Prelude.{Literal, negation, Clause, IsIn, is_existentia
 use Rattle.q_logic.specs.Blocking.{AllClash}
 use Rattle.q_logic.specs.Targets as theory
 use Rattle.q_logic.proofs.Common.{universal-not_existential}
-use Rattle.q_kernel.specs.Prelude.{Seen, slots, IsLive}
+use Rattle.q_kernel.specs.Prelude.{Seen, slots, Applies, IsLive}
 use Rattle.q_blocked.specs.declared.target.Target.{Target}
 use Rattle.q_blocked.specs.declared.target.Target.TheVariants.{Blocked, BlockedForall, Cover}
 use Rattle.q_blocked.specs.Targets.{target_of}
 use Rattle.q_rule.proofs.RuleSearch.{found-none, found-more}
 use Rattle.q_rule.specs.Searching.{IsFound, IsAt}
-use Rattle.q_blocked.specs.Searches.{IsPivotOf, IsOn}
+use Rattle.q_blocked.specs.Searches.{IsPivotOf, IsOn, IsWithin, FindsWithin}
 
 -- no target of the clause applies
 pub record IsTried (k : Seen) (c : ℕ) : Type 0 where
   pub none : IsFound target_of k (IsAt target_of c) None
 
 -- a target applies to a clause that is there
-live-place : (k : Seen) (t : Target) (B : Bounds) → Fits B k.prefix (slots k) (target_of t) → IsLive (slots k) (place (target_of t))
+pub live-place : (k : Seen) (t : Target) (B : Bounds) → Fits B k.prefix (slots k) (target_of t) → IsLive (slots k) (place (target_of t))
 live-place k (Blocked c l) B f = record { there = (f.0, f.1) }
 live-place k (BlockedForall c l) B f = record { there = (f.0, f.1) }
 live-place k (Cover c) B f = record { there = (f.0, f.1) }
@@ -86,3 +86,11 @@ found-neither k c a n = found-none target_of k (IsAt target_of c) none
     none (Blocked d j) q B f = a.none refl (Blocked d j) q B f
     none (BlockedForall d j) q B f = a.none refl (BlockedForall d j) q B f
     none (Cover d) q B f = n B (subst (λ (x : ℕ). Fits B k.prefix (slots k) (theory.cover x)) q f)
+
+-- What fits between two places, as what applies there.
+pub finds-within : {E : Type 0} (B : Bounds) (k : Seen) (from upto : ℕ) (answer : Result (Option Target) E) → ((t : Target) → ((C : Bounds) → Fits C k.prefix (slots k) (target_of t)) → Applies B k (target_of t)) → IfOk answer (IsFound target_of k (IsWithin from upto)) → IfOk answer (FindsWithin B k from upto)
+finds-within B k from upto (Ok o) a f = record {
+  some = λ t e. let r = f.some t e in (r.0, a t r.1);
+  none = λ e t p b. f.none e t p B b.fits;
+}
+finds-within B k from upto (Err e) a f = f

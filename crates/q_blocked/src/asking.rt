@@ -2,15 +2,18 @@
 ghost use Rattle.std.specs.Prelude.{◌≡◌, ◌↔◌, IfOk, IsTrue};
 ghost use Rattle.q_logic.specs.declared.rule_bounds.Bounds.{Bounds};
 ghost use Rattle.q_logic.specs.Prelude.{cover, Fits};
-ghost use Rattle.q_kernel.specs.Prelude.{Seen, slots};
+ghost use Rattle.q_kernel.specs.Prelude.{Seen, slots, IsReady};
 ghost use Rattle.q_blocked.specs.Learned.{IsRightFor};
+ghost use Rattle.q_blocked.specs.Searches.{FindsWithin};
 
 use crate::cover::fits_cover;
+use crate::find::find_between;
 use crate::needed::leave_out;
 use crate::replay::Step;
 use crate::search::Search;
+use crate::target::Target;
 use q_kernel::{ClauseId, Kernel};
-use q_logic::NoMemory;
+use q_logic::{Bounds, NoMemory};
 
 impl Search {
     /// Drops what was learned of a kernel, so that any other may come.
@@ -38,6 +41,24 @@ impl Search {
             &mut self.needed,
         );
         yes
+    }
+
+    /// A target whose place is at least one number and below another; none exactly where none of these applies. What is learned of
+    /// the kernel serves for the next question on the same one, so a search place by place costs what a whole one does.
+    pub fn find_within(
+        &mut self,
+        kernel: &Kernel,
+        bounds: &Bounds,
+        from: u32,
+        upto: u32,
+    ) -> Result<Option<Target>, NoMemory>
+        requires ready { IsReady kernel.now }
+        requires right { IsRightFor kernel.now self.old }
+        ensures finds { IfOk result (FindsWithin bounds.now kernel.now from upto) }
+        ensures right { IsRightFor kernel.now self.new }
+    {
+        let _ = bounds;
+        find_between(kernel, self, from, upto)
     }
 
     /// The steps of the last growth. Where it ended, they are a hint for another search that tests the same clause.

@@ -7,7 +7,8 @@ ghost use Rattle.q_watch.specs.Watches.{AreRightFor};
 ghost use Rattle.q_blocked.specs.Units.{AreRight};
 ghost use Rattle.q_blocked.specs.Notes.{AreApart};
 ghost use Rattle.q_rule.specs.Searching.{IsFound, IsAt};
-ghost use Rattle.q_blocked.specs.Searches.{IsPivotOf, IsOn};
+ghost use Rattle.q_blocked.specs.Searches.{IsPivotOf, IsOn, IsWithin};
+ghost use Rattle.q_blocked.specs.Learned.{IsRightFor};
 
 use crate::blocked::may_drop;
 use crate::clashing::{all_clash, fill};
@@ -34,6 +35,39 @@ pub fn find_from(
         if found.is_some() {
             return Ok(found);
         }
+    }
+    Ok(None)
+}
+
+/// A target that fits, of the first clause that has one from a number on and below another. What the search has learned is right for
+/// the kernel, and is so after.
+pub fn find_between(
+    kernel: &Kernel,
+    search: &mut Search,
+    from: u32,
+    upto: u32,
+) -> Result<Option<Target>, NoMemory>
+    requires right { IsRightFor kernel.now search.old }
+    ensures found { IfOk result (IsFound target_of kernel.now (IsWithin from upto)) }
+    ensures right { IsRightFor kernel.now search.new }
+{
+    for c in from..upto {
+        let found = find_near(kernel, search, c)?;
+        if found.is_some() {
+            return Ok(found);
+        }
+    }
+    Ok(None)
+}
+
+// A target at a place, where a clause may be.
+fn find_near(kernel: &Kernel, search: &mut Search, c: u32) -> Result<Option<Target>, NoMemory>
+    requires right { IsRightFor kernel.now search.old }
+    ensures found { IfOk result (IsFound target_of kernel.now (IsAt target_of c)) }
+    ensures right { IsRightFor kernel.now search.new }
+{
+    if kernel.live(c) {
+        return find_at(kernel, search, c);
     }
     Ok(None)
 }

@@ -13,6 +13,7 @@ pub mod WholeFiles
 pub mod FileFormulas
 pub mod PutLines
 pub mod OutcomeStatus
+pub mod FaultTurns
 pub mod ToldLaws
 pub mod CheckLaws
 pub mod PartStatus

@@ -38,6 +38,10 @@ pub plain_in-hinted : (hs : List HintedEntry) → plain_in (map hinted_entry hs)
 plain_in-hinted [] = refl
 plain_in-hinted (h ∷ hs) = plain_in-hinted hs
 
+pub hinted_in-hinted : (hs : List HintedEntry) → hinted_in (map hinted_entry hs) ≡ hs
+hinted_in-hinted [] = refl
+hinted_in-hinted (h ∷ hs) = ap (λ (xs : List HintedEntry). h ∷ xs) (hinted_in-hinted hs)
+
 pub bare-plain : (ps : List Entry) → bare (map plain_entry ps) ≡ ps
 bare-plain [] = refl
 bare-plain (p ∷ ps) = ap (λ (xs : List Entry). p ∷ xs) (bare-plain ps)

@@ -5,6 +5,7 @@ use Rattle.q_logic.specs.Prelude.{Rose}
 use Rattle.q_io.specs.Files.{Disk, RoseAmong}
 use Rattle.q_command.specs.Checks.{Exactly, MayCome}
 use Rattle.q_command.specs.Devices.{Devices}
+use Rattle.q_command.specs.FirstFaults.{FaultAt}
 use Rattle.q_command.specs.Sinks.{SinkView, IsDue, IsSaid}
 use Rattle.q_command.specs.Told.{Told, IfReading, Runs, IsFaultless, OrNoMemory, Completes}
 use Rattle.q_command.specs.declared.status.Status.{Status}
@@ -36,13 +37,16 @@ due-write due given old new (inr (inr f)) g = let w : status.NoMemory ≡ status
 
 -- a command that has said its outcome
 pub runs : (t : Told) → ToldLaws t → (due : t.Outcome) (before after : Devices) (given : Status) → IfSome before.held (λ disk. t.says due disk after.held) → IsSaid (t.line_of due) (t.status_of due) given before.sink after.sink →
-    (t.status_of due ≡ status.ReadFault → RoseAmong (λ (d : Devices). d.read_faults) t.reads before after) → (t.status_of due ≡ status.WriteFault → RoseAmong (λ (d : Devices). d.write_faults) t.writes before after) → IfReading t.writes (after.held ≡ before.held) → Runs t before given after
-runs t laws due before after given is said r w unchanged =
+    (t.status_of due ≡ status.ReadFault → RoseAmong (λ (d : Devices). d.read_faults) t.reads before after) → (t.status_of due ≡ status.WriteFault → RoseAmong (λ (d : Devices). d.write_faults) t.writes before after) → IfReading t.writes (after.held ≡ before.held) →
+    (t.status_of due ≡ status.ReadFault → FaultAt (λ (d : Devices). d.read_faults) t.reads_at before.held after.held before after) → (t.status_of due ≡ status.WriteFault → FaultAt (λ (d : Devices). d.write_faults) t.writes_at before.held after.held before after) → Runs t before given after
+runs t laws due before after given is said r w unchanged ra wa =
     record {
       gives = IfSome_then before.held is (λ disk h. laws.gives due given disk after.held before.sink after.sink h said.answer);
       no_usage = λ e. laws.no_usage due (due-usage (t.status_of due) given before.sink after.sink said.answer e);
       read_fault = λ e. r (due-read (t.status_of due) given before.sink after.sink said.answer e);
       write_fault = λ e. elim (due-write (t.status_of due) given before.sink after.sink said.answer e) [ inl x ↦ inr (w x) | inr x ↦ inl x ];
+      read_fault_at = λ e. ra (due-read (t.status_of due) given before.sink after.sink said.answer e);
+      write_fault_at = λ e. elim (due-write (t.status_of due) given before.sink after.sink said.answer e) [ inl x ↦ inr (wa x) | inr x ↦ inl x ];
       unchanged = unchanged;
       line = record { due = due; is = is; given_is = said.answer; says = said.says };
     }

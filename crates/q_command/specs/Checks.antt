@@ -1,5 +1,5 @@
 -- What `check` answers over the bytes of its three files.
-use Rattle.std.specs.Prelude.{◌≡◌, ◌⊎◌, ◌↔◌, ℕ, Bool, true, List, [], length, Some}
+use Rattle.std.specs.Prelude.{◌≡◌, ◌⊎◌, ◌↔◌, ℕ, Bool, true, List, [], ◌∷◌, length, Some}
 use Rattle.q_logic.specs.Prelude.{PrenexFormula, HintedRun, HintedSteps as AreValid, NumberedFormula, begun, plain, standard, ProofStep, ValidSteps, Run, Holds, UndoEntry, Undos}
 use Rattle.q_io.specs.Files.{bytes_at}
 use Rattle.q_dimacs.specs.Dimacs.{Dimacs}
@@ -8,6 +8,7 @@ use Rattle.q_log.specs.Logs.{Steps}
 use Rattle.q_hinted.specs.Logs.{HintedSteps}
 use Rattle.q_command.specs.Logs.{Entry, HintedEntry, steps_of, hinted_of, stripped, EndsApart, IsRefusedAt}
 use Rattle.q_command.specs.Taken.{entries_of}
+use Rattle.q_command.specs.FirstFaults.{Turn, first_of, where_so}
 use Rattle.q_command.specs.Lines.{line_of}
 use Rattle.q_command.specs.Names.{ThreeNames, names_read}
 use Rattle.q_command.specs.Statuses.{status_of}
@@ -27,6 +28,9 @@ use Rattle.q_command.specs.declared.status.Status.TheVariants as status
 -- the bytes are the file of a formula
 abbrev pub IsFileOf : List ℕ → PrenexFormula → Type 0
 IsFileOf bytes F = Dimacs standard bytes F
+
+abbrev pub IsFormulaFile : List ℕ → Type 0
+IsFormulaFile bytes = (F : PrenexFormula) × IsFileOf bytes F
 
 abbrev pub IsNoFormula : List ℕ → Type 0
 IsNoFormula bytes = (F : PrenexFormula) → ¬ IsFileOf bytes F
@@ -195,6 +199,30 @@ pub record AnswersExactly (answer : Status) (i o l : List ℕ) : Type 0 where
   pub log_refused : Exactly answer status.LogRefused (IsNoRun i o l)
   pub input_refused : Exactly answer status.InputRefused (IsNoFormula i ⊎ IsNoFormula o)
 
+-- IN is read first, and the other file where IN holds a formula
+abbrev pub input_then : List ℕ → List ℕ → List Turn
+input_then input name = first_of input ∷ where_so (λ disk. IsFormulaFile (bytes_at disk input)) name ∷ []
+
+-- IN is read first, OUT where IN holds a formula, and LOG where both do
+abbrev pub input_turn : ThreeNames → Turn
+input_turn n = first_of n.input
+
+abbrev pub output_turn : ThreeNames → Turn
+output_turn n = where_so (λ disk. IsFormulaFile (bytes_at disk n.input)) n.output
+
+abbrev pub log_turn : ThreeNames → Turn
+log_turn n = where_so (λ disk. IsFormulaFile (bytes_at disk n.input) × IsFormulaFile (bytes_at disk n.output)) n.log
+
+abbrev pub turns_of_ends : ThreeNames → List Turn
+turns_of_ends n = input_turn n ∷ output_turn n ∷ []
+
+abbrev pub turns_read : ThreeNames → List Turn
+turns_read n = input_turn n ∷ output_turn n ∷ log_turn n ∷ []
+
+-- the three files, and one more behind them
+abbrev pub turns_and : ThreeNames → Turn → List Turn
+turns_and n last = input_turn n ∷ output_turn n ∷ log_turn n ∷ last ∷ []
+
 -- the command; a log that leads from IN to OUT is verified, another one refused
 abbrev pub told : ThreeNames → Told
 told n = record {
@@ -208,4 +236,6 @@ told n = record {
       × (IsNoRun (bytes_at disk n.input) (bytes_at disk n.output) (bytes_at disk n.log) → OrNoMemory given status.LogRefused);
   reads = names_read n;
   writes = [];
+  reads_at = turns_read n;
+  writes_at = [];
 }

@@ -15,5 +15,6 @@ pub mod Checks
 pub mod Parts
 pub mod Texts
 pub mod Devices
+pub mod FirstFaults
 pub mod Told
 pub mod Unfits

@@ -11,7 +11,7 @@ use Rattle.q_log.specs.Logs as logs
 use Rattle.q_hinted.specs.Logs.{Profile, HintedSteps, hinted_in, read_entries}
 use Rattle.q_command.specs.Logs.{Entry, HintedEntry, steps_of, hinted_of, stripped, EndsApart, IsOffence}
 use Rattle.q_io.specs.Files.{bytes_at}
-use Rattle.q_command.specs.Checks.{AnswersBy, IsFileOf, OfFormulas}
+use Rattle.q_command.specs.Checks.{AnswersBy, IsFileOf, OfFormulas, turns_read}
 use Rattle.q_command.specs.Lines.{line_of}
 use Rattle.q_command.specs.Names.{ThreeNames, names_read}
 use Rattle.q_command.specs.Statuses.{status_of}
@@ -137,6 +137,8 @@ told n p = record {
       × (IsShareRefused (share_of p) (bytes_at disk n.input) (bytes_at disk n.output) (bytes_at disk n.log) → OrNoMemory given status.LogRefused);
   reads = names_read n;
   writes = [];
+  reads_at = turns_read n;
+  writes_at = [];
 }
 
 -- each of several says `verified`, with a number of its own

@@ -4,6 +4,7 @@ use Rattle.std.specs.Prelude.{◌≡◌, ◌≢◌, ◌⊎◌, ℕ, List, [], �
 use Rattle.q_logic.specs.Prelude.{Rose}
 use Rattle.q_io.specs.Files.{Disk, RoseAmong}
 use Rattle.q_command.specs.Devices.{Devices}
+use Rattle.q_command.specs.FirstFaults.{Turn, FaultAt}
 use Rattle.q_command.specs.Sinks.{SinkView, IsDue, Says}
 use Rattle.q_command.specs.declared.status.Status.{Status}
 use Rattle.q_command.specs.declared.status.Status.TheVariants as status
@@ -22,6 +23,9 @@ pub record Told : Type 1 where
   -- the names of the files that it reads, and of those that it writes
   pub reads : List (List ℕ)
   pub writes : List (List ℕ)
+  -- the same in the order in which the command comes to them, each with what is so of the files then
+  pub reads_at : List Turn
+  pub writes_at : List Turn
 
 -- an outcome of which this holds is due; its line is put, where the sink tells, and its status is given
 pub record Puts (t : Told) (P : t.Outcome → Type 0) (before : SinkView) (given : Status) (after : SinkView) : Type 0 where
@@ -36,14 +40,19 @@ IfReading [] P = P
 IfReading (name ∷ names) P = Unit {0}
 
 -- what a command does: the status that it gives and what the files hold then; a fault is given only where a count of faults
--- rose, of a file that it reads or writes or of the sink; files that are only read stay, also where they don't tell what
--- they hold; one line is put, and it says what is so
+-- rose, of a file that it reads or writes or of the sink, and of a file only where those before it are as they have to be; files
+-- that are only read stay, also where they don't tell what they hold; one line is put, and it says what is so
 pub record Runs (t : Told) (before : Devices) (given : Status) (after : Devices) : Type 0 where
   pub gives : IfSome before.held (λ disk. t.gives given disk after.held)
   pub no_usage : given ≢ status.Usage
   pub read_fault : given ≡ status.ReadFault → RoseAmong (λ (d : Devices). d.read_faults) t.reads before after
   pub write_fault : given ≡ status.WriteFault →
       Rose before.sink.faults after.sink.faults ⊎ RoseAmong (λ (d : Devices). d.write_faults) t.writes before after
+  pub read_fault_at : given ≡ status.ReadFault →
+      FaultAt (λ (d : Devices). d.read_faults) t.reads_at before.held after.held before after
+  pub write_fault_at : given ≡ status.WriteFault →
+      Rose before.sink.faults after.sink.faults
+      ⊎ FaultAt (λ (d : Devices). d.write_faults) t.writes_at before.held after.held before after
   pub unchanged : IfReading t.writes (after.held ≡ before.held)
   pub line : Puts t (λ due. IfSome before.held (λ disk. t.says due disk after.held)) before.sink given after.sink
 

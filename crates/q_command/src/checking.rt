@@ -2,12 +2,13 @@
 ghost use Rattle.std.specs.Prelude.{◌≡◌, ◌<◌, List, ℕ, false, length, IfOk, IfErr, IfSome, IsErrOf};
 ghost use Rattle.q_logic.specs.Prelude.{PrenexFormula, IsProper, IsFormula};
 ghost use Rattle.q_io.specs.Files.{RoseAmong, RoseFor, bytes_at};
+ghost use Rattle.q_command.specs.FirstFaults.{FaultAt};
 ghost use Rattle.q_command.specs.Names.{OfThree, ends_of, three_of, names_read};
 ghost use Rattle.q_command.specs.Reading.{OnlyReadsFiles};
 ghost use Rattle.q_command.specs.Audits.{IsWithEnds, LogIsShared, LogIsTaken};
 ghost use Rattle.q_command.specs.LazyCheckers.{IsHeld};
 ghost use Rattle.q_command.specs.Taken.{AreRun};
-ghost use Rattle.q_command.specs.Checks.{AreEnds, Checks, FilesPass, HaveOneTruth, IfVerified, IsEarly, IsFileOf, IsInputRefusal, IsUnverified, LeadsBack, LogSays, input_refused};
+ghost use Rattle.q_command.specs.Checks.{AreEnds, Checks, FilesPass, HaveOneTruth, IfVerified, IsEarly, IsFileOf, IsInputRefusal, IsUnverified, LeadsBack, LogSays, input_refused, turns_of_ends, turns_read};
 ghost use Rattle.q_command.specs.Parts.{ChecksShared, LogSaysShared, share_of};
 
 use crate::audit::{Audit, Keep, Passed};
@@ -166,6 +167,9 @@ pub fn read_ends<F: Files>(
     ensures unverified { IfErr result IsUnverified }
     ensures fault { IsErrOf result Outcome.ReadFault
         → RoseAmong F.read_faults (ends_of (three_of names.entry)) files.old files.new }
+    ensures fault_at { IsErrOf result Outcome.ReadFault
+        → FaultAt F.read_faults (turns_of_ends (three_of names.entry)) (F.held files.old)
+        (F.held files.new) files.old files.new }
     ensures only_reads { OnlyReadsFiles F.Files files.old files.new }
 {
     let from = match read_operand(alloc, files, Role::In, names.input, buffer) {
@@ -225,6 +229,9 @@ fn check_files<F: Files>(
     ensures unverified { IfErr result IsUnverified }
     ensures fault { IsErrOf result Outcome.ReadFault
         → RoseAmong F.read_faults (names_read (three_of names.entry)) files.old files.new }
+    ensures fault_at { IsErrOf result Outcome.ReadFault
+        → FaultAt F.read_faults (turns_read (three_of names.entry)) (F.held files.old)
+        (F.held files.new) files.old files.new }
     ensures only_reads { OnlyReadsFiles F.Files files.old files.new }
 {
     let Ends { from, to } = match read_ends(alloc, files, names, buffer) {
@@ -262,6 +269,9 @@ pub fn verify<F: Files>(
     ensures unverified { IfErr result IsUnverified }
     ensures fault { IsErrOf result Outcome.ReadFault
         → RoseAmong F.read_faults (names_read (three_of names.entry)) files.old files.new }
+    ensures fault_at { IsErrOf result Outcome.ReadFault
+        → FaultAt F.read_faults (turns_read (three_of names.entry)) (F.held files.old)
+        (F.held files.new) files.old files.new }
     ensures only_reads { OnlyReadsFiles F.Files files.old files.new }
 {
     match vec![in alloc; 0u8; PIECE] {
@@ -285,6 +295,9 @@ fn count_steps<F: Files>(
         (ChecksShared (share_of part) o)) }
     ensures fault { IsErrOf result Outcome.ReadFault
         → RoseAmong F.read_faults (names_read (three_of names.entry)) files.old files.new }
+    ensures fault_at { IsErrOf result Outcome.ReadFault
+        → FaultAt F.read_faults (turns_read (three_of names.entry)) (F.held files.old)
+        (F.held files.new) files.old files.new }
     ensures only_reads { OnlyReadsFiles F.Files files.old files.new }
 {
     let Ends { from, to } = match read_ends(alloc, files, names, buffer) {
@@ -315,6 +328,9 @@ pub fn check_part<F: Files>(alloc: Global, files: &mut F, names: Names, part: Pa
         (ChecksShared (share_of part) result) }
     ensures fault { result ≡ Outcome.ReadFault
         → RoseAmong F.read_faults (names_read (three_of names.entry)) files.old files.new }
+    ensures fault_at { result ≡ Outcome.ReadFault
+        → FaultAt F.read_faults (turns_read (three_of names.entry)) (F.held files.old)
+        (F.held files.new) files.old files.new }
     ensures held { F.held files.new ≡ F.held files.old }
     ensures only_reads { OnlyReadsFiles F.Files files.old files.new }
 {
@@ -334,6 +350,9 @@ pub fn check<F: Files>(alloc: Global, files: &mut F, names: Names) -> Outcome
         (OfThree (F.held files.old) (three_of names.entry) (λ i o l. HaveOneTruth i o)) }
     ensures fault { result ≡ Outcome.ReadFault
         → RoseAmong F.read_faults (names_read (three_of names.entry)) files.old files.new }
+    ensures fault_at { result ≡ Outcome.ReadFault
+        → FaultAt F.read_faults (turns_read (three_of names.entry)) (F.held files.old)
+        (F.held files.new) files.old files.new }
     ensures held { F.held files.new ≡ F.held files.old }
     ensures only_reads { OnlyReadsFiles F.Files files.old files.new }
 {

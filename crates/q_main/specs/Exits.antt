@@ -5,10 +5,10 @@ use Rattle.q_command.specs.declared.status.Status.{Status}
 use Rattle.q_command.specs.declared.status.Status.TheVariants as status
 use Rattle.q_app.specs.Commands.{is_plain, request, seconds_of}
 use Rattle.q_command.specs.Devices.{Devices}
-use Rattle.q_simplify.specs.Alarms.{AlarmView}
+use Rattle.q_sched.specs.Alarms.{AlarmView}
 use Rattle.q_app.specs.Stopping.{AlarmKeeps, KeepsUntil}
 
--- what these words ask for is done, unless the alarm rang under a smaller budget, and this is the number of its status
+-- what these words ask for is done, or a simplification that the alarm stopped, and this is the number of its status
 pub record DoesWith (words : List (List ℕ)) (first last : AlarmView) (before : Devices) (code : ℕ) (after : Devices) : Type 0 where
   pub given : Status
   pub keeps : KeepsUntil first last (request words) before given after

@@ -230,13 +230,6 @@ impl Board {
         );
     }
 
-    /// A run is stopped, so all rules are searched.
-    pub(crate) fn note_stop(&self) {
-        if let Some(stage) = self.stage.get() {
-            self.note_search(stage.clauses);
-        }
-    }
-
     // The formula is so far simplified.
     fn note_stage(&self, stage: Stage) {
         self.stage.set(Some(stage));

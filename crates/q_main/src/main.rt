@@ -8,7 +8,7 @@ ghost use Rattle.q_app.specs.Commands.{is_plain as spec_is_plain, request, secon
 ghost use Rattle.q_app.specs.Operands.{texts};
 ghost use Rattle.q_app.specs.Stopping.{AlarmKeeps, KeepsUntil};
 ghost use Rattle.q_command.specs.Devices.{devices};
-ghost use Rattle.q_simplify.specs.AlarmViews.{view_alarm};
+ghost use Rattle.q_sched.specs.AlarmViews.{view_alarm};
 ghost use Rattle.q_main.specs.Exits.{Exits};
 
 mod bell;
@@ -100,10 +100,9 @@ fn shares_of(board: &Rc<Board>, stopping: &Rc<Stopping>) -> Result<Shares, NoMem
     Ok((first, second, third, Teller::new(told, heeded)))
 }
 
-fn alarm_of(board: &Rc<Board>, stopping: &Rc<Stopping>) -> Result<Ringing, NoMemory> {
-    let told = board.clone()?;
+fn alarm_of(stopping: &Rc<Stopping>) -> Result<Ringing, NoMemory> {
     let heeded = stopping.clone()?;
-    Ok(Ringing::new(heeded, told))
+    Ok(Ringing::new(heeded))
 }
 
 // The bounds of the first guide. Where an expansion copies variables, its universal leaves by extended reductions, so a plain run
@@ -156,7 +155,9 @@ fn run_guided<F: Files, S: Sink, A: Alarm>(
     let fewest = Impatient::new(FewestFirst::new());
     guides.push(Box::new(alloc, Progress::new(fewest, second, false))?)?;
     let shortest = Impatient::new(ShortestFirst::new());
-    guides.push(Box::new(alloc, Progress::new(shortest, third, true))?)?;
+    // behind it all rules are searched, but not in a plain run
+    let is_last = !is_plain(words);
+    guides.push(Box::new(alloc, Progress::new(shortest, third, is_last))?)?;
     Ok(run(alloc, words, files, out, guides, alarm))
 }
 
@@ -190,7 +191,7 @@ fn exit_on_disk(rt: &HostRuntime, arguments: &[String]) -> Result<ExitCode, NoMe
     let stopping = Rc::new(rt.alloc(), Stopping::new(*rt))?;
     let board = Rc::new(rt.alloc(), Board::new(*rt))?;
     let shares = shares_of(&board, &stopping)?;
-    let mut alarm = alarm_of(&board, &stopping)?;
+    let mut alarm = alarm_of(&stopping)?;
     let mut files = Watched::new(DiskFiles::new(rt), &board);
     let wiped = Wiped::new(rt, &board);
     let mut out = StdSink::new(&wiped);

@@ -17,7 +17,7 @@ pub(crate) struct Progress<G: Guide> {
     board: Rc<Board>,
     // the last proposal
     target: Option<Move>,
-    // no guide is asked after it
+    // behind it all rules are searched
     is_last: bool,
     refusals: u32,
     // of the formula that it was asked for last

@@ -1,9 +1,8 @@
-//! The alarm of a run: it rings when it is time to stop, and in a plain run where no guide is left. Then all rules would be
-//! searched, and extended universal reduction with them.
+//! The alarm of a run: it rings when it is time to stop, and in a plain run where no guide is left. Else all rules would be searched
+//! there, and extended universal reduction with them.
 ghost use Rattle.std.specs.Prelude.{◌≡◌, true, false};
-ghost use Rattle.q_simplify.specs.Alarms.{risen};
+ghost use Rattle.q_sched.specs.Alarms.{risen};
 
-use crate::board::Board;
 use crate::stopping::Stopping;
 use q_simplify::Alarm;
 use std::rc::Rc;
@@ -12,7 +11,6 @@ use std::rc::Rc;
 #[derive(Drop)]
 pub(crate) struct Ringing {
     stopping: Rc<Stopping>,
-    board: Rc<Board>,
     asked: u64,
     rang: u64,
     seconds: Option<u64>,
@@ -20,20 +18,13 @@ pub(crate) struct Ringing {
 }
 
 impl Ringing {
-    pub(crate) fn new(stopping: Rc<Stopping>, board: Rc<Board>) -> Ringing {
+    pub(crate) fn new(stopping: Rc<Stopping>) -> Ringing {
         Ringing {
             stopping,
-            board,
             asked: 0,
             rang: 0,
             seconds: None,
             plain: false,
-        }
-    }
-
-    fn note(&self, guided: bool) {
-        if guided {
-            self.board.note_stop();
         }
     }
 }
@@ -58,7 +49,6 @@ impl Alarm for Ringing {
         let rings = (self.plain && !guided) || self.stopping.is_time();
         if rings {
             self.rang = self.rang.saturating_add(1);
-            self.note(guided);
         }
         rings
     }

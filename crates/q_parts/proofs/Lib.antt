@@ -3,5 +3,5 @@ mod JoinedFiles
 mod SameWords
 mod CheckedParts
 pub mod RisingLines
-mod RisingEntries
+pub mod RisingEntries
 mod LeastRefusals

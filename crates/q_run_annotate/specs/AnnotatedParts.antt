@@ -4,9 +4,10 @@ use Rattle.q_logic.specs.Prelude.{PrenexFormula, standard}
 use Rattle.q_io.specs.Files.{Disk, bytes_at}
 use Rattle.q_log.specs.Logs.{read}
 use Rattle.q_shares.specs.Shares.{Share}
-use Rattle.q_command.specs.Checks.{OfFormulas}
+use Rattle.q_command.specs.Checks.{OfFormulas, turns_read}
 use Rattle.q_command.specs.Logs.{Entry, EndsApart}
 use Rattle.q_command.specs.Parts.{IsFirstBadShared, IsPlainShareLog, IsPlainShareWay, share_of}
+use Rattle.q_command.specs.FirstFaults.{untold}
 use Rattle.q_command.specs.Told.{Told, OrNoMemory}
 use Rattle.q_command.specs.declared.part.Part.{Part}
 use Rattle.q_command.specs.declared.outcome.Outcome.{Outcome}
@@ -15,7 +16,7 @@ use Rattle.q_command.specs.declared.status.Status.{Status}
 use Rattle.q_command.specs.declared.status.Status.TheVariants as status
 use Rattle.q_run_annotate.specs.AnnotatedLines.{status_of_annotated, line_of_annotated}
 use Rattle.q_run_annotate.specs.AnnotatedShares.{IsShareAnnotation}
-use Rattle.q_run_annotate.specs.Annotates.{AnnotateFiles, AnnotatesBy, AnswersBy, ChecksBy, IsAnnotatedBy, IsWholeBy, names_read, names_written}
+use Rattle.q_run_annotate.specs.Annotates.{AnnotateFiles, AnnotatesBy, AnswersBy, ChecksBy, IsAnnotatedBy, IsWholeBy, names_read, names_written, three_read}
 use Rattle.q_run_annotate.specs.declared.annotated.Annotated.{Annotated}
 
 -- the plain log leads from F to G as far as the share tells
@@ -83,4 +84,6 @@ told n p = record {
       × (IsShareRefused (share_of p) (bytes_at disk n.input) (bytes_at disk n.output) (bytes_at disk n.log) → OrNoMemory given status.LogRefused);
   reads = names_read n;
   writes = names_written n;
+  reads_at = turns_read (three_read n);
+  writes_at = untold (names_written n);
 }

@@ -7,8 +7,10 @@ use Rattle.q_io.specs.Files.{Disk, HoldsBytes, MayHoldFront, bytes_at}
 use Rattle.q_log.specs.Logs.{Steps}
 use Rattle.q_hinted.specs.Parts.{IsPartOf}
 use Rattle.q_hinted.specs.Texts.{log_text}
-use Rattle.q_command.specs.Checks.{Checks, IsFileOf, IsNoFormula, IsPlainRunLog, IsPlainWay, IsUnverified, OfFormulas, Exactly}
+use Rattle.q_command.specs.Checks.{Checks, IsFileOf, IsNoFormula, IsPlainRunLog, IsPlainWay, IsUnverified, OfFormulas, Exactly, turns_read}
 use Rattle.q_command.specs.Logs.{Entry, steps_of, EndsApart, IsRefusedPlain}
+use Rattle.q_command.specs.FirstFaults.{Turn, untold}
+use Rattle.q_command.specs.Names.{ThreeNames, three}
 use Rattle.q_command.specs.Told.{Told, OrNoMemory}
 use Rattle.q_command.specs.declared.outcome.Outcome.{Outcome}
 use Rattle.q_command.specs.declared.outcome.Outcome.TheVariants as outcome
@@ -37,6 +39,10 @@ names_read n = n.input ∷ n.output ∷ n.log ∷ []
 -- the names of the files that are written
 abbrev pub names_written : AnnotateFiles → List (List ℕ)
 names_written n = n.hinted ∷ []
+
+-- the names of the files that are read
+abbrev pub three_read : AnnotateFiles → ThreeNames
+three_read n = three n.input n.output n.log
 
 -- the canonical text of a hinted log that leads from F to G, and whose steps are these
 pub record IsHintedLog (F G : PrenexFormula) (ss : List ProofStep) (text : List ℕ) : Type 0 where
@@ -177,4 +183,6 @@ told n = record {
       × (IsNoPlainRun (bytes_at disk n.input) (bytes_at disk n.output) (bytes_at disk n.log) → OrNoMemory given status.LogRefused);
   reads = names_read n;
   writes = names_written n;
+  reads_at = turns_read (three_read n);
+  writes_at = untold (names_written n);
 }

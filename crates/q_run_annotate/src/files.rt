@@ -2,9 +2,10 @@
 ghost use Rattle.std.specs.Prelude.{◌≡◌, ◌<◌, length, IfOk, IfErr, IfSome, IsErrOf};
 ghost use Rattle.q_io.specs.Files.{RoseAmong};
 ghost use Rattle.q_command.specs.Reading.{OnlyReadsFiles};
-ghost use Rattle.q_command.specs.Checks.{IsUnverified};
+ghost use Rattle.q_command.specs.Checks.{IsUnverified, turns_read};
+ghost use Rattle.q_command.specs.FirstFaults.{FaultAt};
 ghost use Rattle.q_command.specs.Parts.{share_of};
-ghost use Rattle.q_run_annotate.specs.Annotates.{Annotates, files_of, names_read, names_written};
+ghost use Rattle.q_run_annotate.specs.Annotates.{Annotates, files_of, names_read, names_written, three_read};
 ghost use Rattle.q_run_annotate.specs.AnnotatedParts.{AnnotatesShared, IsAnnotatedShared, NotAnnotatedShared};
 ghost use Rattle.q_run_annotate.specs.AnnotatedLines.{status_of_annotated};
 
@@ -34,6 +35,9 @@ fn hint_files<F: Files>(
     ensures unverified { IfErr result IsUnverified }
     ensures fault { IsErrOf result Outcome.ReadFault
         → RoseAmong F.read_faults (names_read (files_of names.entry)) files.old files.new }
+    ensures fault_at { IsErrOf result Outcome.ReadFault
+        → FaultAt F.read_faults (turns_read (three_read (files_of names.entry)))
+        (F.held files.old) (F.held files.new) files.old files.new }
     ensures only_reads { OnlyReadsFiles F.Files files.old files.new }
 {
     let three = Names {
@@ -63,6 +67,9 @@ fn hint_with_room<F: Files>(
     ensures unverified { IfErr result IsUnverified }
     ensures fault { IsErrOf result Outcome.ReadFault
         → RoseAmong F.read_faults (names_read (files_of names.entry)) files.old files.new }
+    ensures fault_at { IsErrOf result Outcome.ReadFault
+        → FaultAt F.read_faults (turns_read (three_read (files_of names.entry)))
+        (F.held files.old) (F.held files.new) files.old files.new }
     ensures only_reads { OnlyReadsFiles F.Files files.old files.new }
 {
     match vec![in alloc; 0u8; PIECE] {
@@ -82,6 +89,9 @@ pub fn annotate_part<F: Files>(
         AnnotatesShared (share_of part) result (files_of names.entry) disk (F.held files.new)) }
     ensures read_fault { status_of_annotated result ≡ Status.ReadFault
         → RoseAmong F.read_faults (names_read (files_of names.entry)) files.old files.new }
+    ensures read_fault_at { status_of_annotated result ≡ Status.ReadFault
+        → FaultAt F.read_faults (turns_read (three_read (files_of names.entry)))
+        (F.held files.old) (F.held files.new) files.old files.new }
     ensures write_fault { status_of_annotated result ≡ Status.WriteFault
         → RoseAmong F.write_faults (names_written (files_of names.entry)) files.old files.new }
 {
@@ -104,6 +114,9 @@ pub fn annotate_files<F: Files>(alloc: Global, files: &mut F, names: AnnotateNam
         Annotates result (files_of names.entry) disk (F.held files.new)) }
     ensures read_fault { status_of_annotated result ≡ Status.ReadFault
         → RoseAmong F.read_faults (names_read (files_of names.entry)) files.old files.new }
+    ensures read_fault_at { status_of_annotated result ≡ Status.ReadFault
+        → FaultAt F.read_faults (turns_read (three_read (files_of names.entry)))
+        (F.held files.old) (F.held files.new) files.old files.new }
     ensures write_fault { status_of_annotated result ≡ Status.WriteFault
         → RoseAmong F.write_faults (names_written (files_of names.entry)) files.old files.new }
 {

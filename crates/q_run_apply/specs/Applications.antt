@@ -10,9 +10,10 @@ use Rattle.q_log.specs.declared.error.LogError.{LogError}
 use Rattle.q_log.specs.declared.error.LogError.TheVariants.{BadLine}
 use Rattle.q_hinted.specs.Grammar.{nowhere}
 use Rattle.q_hinted.specs.Logs.{Entries, parsed, past_limit, read_entries}
-use Rattle.q_command.specs.Checks.{Exactly, IsFileOf, IsNoFormula}
+use Rattle.q_command.specs.Checks.{Exactly, IsFileOf, IsNoFormula, input_then}
 use Rattle.q_command.specs.Judging.{bare}
 use Rattle.q_command.specs.Logs.{Entry, steps_of, IsOffence}
+use Rattle.q_command.specs.FirstFaults.{untold}
 use Rattle.q_command.specs.Told.{Told, OrNoMemory}
 use Rattle.q_command.specs.declared.status.Status.{Status}
 use Rattle.q_command.specs.declared.status.Status.TheVariants as status
@@ -157,4 +158,6 @@ told n = record {
       (IsApplicable n disk → OrNoMemory given status.Done) × (IsInapplicable n disk → OrNoMemory given status.LogRefused);
   reads = names_read n;
   writes = names_written n;
+  reads_at = input_then n.input n.log;
+  writes_at = untold (names_written n);
 }

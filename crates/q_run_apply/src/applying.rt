@@ -1,6 +1,8 @@
 // IN is read whole, LOG as it is made, and OUT is created when all steps are made.
 ghost use Rattle.std.specs.Prelude.{◌≡◌, IfOk, IfErr, IfSome, IsErrOf};
 ghost use Rattle.q_io.specs.Files.{RoseAmong, RoseFor, bytes_at};
+ghost use Rattle.q_command.specs.Checks.{input_then};
+ghost use Rattle.q_command.specs.FirstFaults.{FaultAt};
 ghost use Rattle.q_command.specs.Reading.{OnlyReadsFiles};
 ghost use Rattle.q_command.specs.declared.status.Status.TheVariants as status;
 ghost use Rattle.q_run_apply.specs.AppliedLines.{status_of_applied};
@@ -83,6 +85,9 @@ fn make_steps<F: Files>(alloc: Global, files: &mut F, names: ApplyNames) -> Resu
     ensures refusal { IfErr result IsRefusal }
     ensures fault { IsErrOf result Applied.ReadFault
         → RoseAmong F.read_faults (names_read (files_of names.entry)) files.old files.new }
+    ensures fault_at { IsErrOf result Applied.ReadFault
+        → FaultAt F.read_faults (input_then names.entry.input.now names.entry.log.now)
+        (F.held files.old) (F.held files.new) files.old files.new }
     ensures only_reads { OnlyReadsFiles F.Files files.old files.new }
 {
     match read_input(alloc, files, names.input) {
@@ -100,6 +105,9 @@ fn reach<F: Files>(alloc: Global, files: &mut F, names: ApplyNames) -> Result<Re
     ensures refusal { IfErr result IsRefusal }
     ensures fault { IsErrOf result Applied.ReadFault
         → RoseAmong F.read_faults (names_read (files_of names.entry)) files.old files.new }
+    ensures fault_at { IsErrOf result Applied.ReadFault
+        → FaultAt F.read_faults (input_then names.entry.input.now names.entry.log.now)
+        (F.held files.old) (F.held files.new) files.old files.new }
     ensures only_reads { OnlyReadsFiles F.Files files.old files.new }
 {
     match make_steps(alloc, files, names) {
@@ -127,6 +135,9 @@ pub fn apply_files<F: Files>(alloc: Global, files: &mut F, names: ApplyNames) ->
         Says result (files_of names.entry) disk (F.held files.new)) }
     ensures read_fault { status_of_applied result ≡ status.ReadFault
         → RoseAmong F.read_faults (names_read (files_of names.entry)) files.old files.new }
+    ensures read_fault_at { status_of_applied result ≡ status.ReadFault
+        → FaultAt F.read_faults (input_then names.entry.input.now names.entry.log.now)
+        (F.held files.old) (F.held files.new) files.old files.new }
     ensures write_fault { status_of_applied result ≡ status.WriteFault
         → RoseAmong F.write_faults (names_written (files_of names.entry)) files.old files.new }
 {

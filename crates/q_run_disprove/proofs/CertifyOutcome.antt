@@ -32,7 +32,7 @@ use Rattle.q_run_disprove.specs.declared.disproved.Disproved.TheVariants as outc
 use Rattle.q_run_disprove.specs.declared.notes.Notes.{Notes}
 use Rattle.q_run_disprove.specs.declared.notes.Notes.TheVariants as notes
 use Rattle.q_run_disprove.specs.declared.verdict.Verdict.{Verdict}
-use Rattle.q_run_disprove.proofs.DisproveOutcome.{says-of, whole-says}
+use Rattle.q_run_disprove.proofs.DisproveOutcome.{whole-of_files}
 use Rattle.q_run_disprove.proofs.NotedSteps.{extended-stays, plain-front, trail-alike}
 
 -- IN holds F, and PROOF was read as a whole
@@ -122,9 +122,9 @@ module _ (n : CertifyFiles) (binary : Bool) (before : Disk) (after : Option Disk
   all-settled (outcome.False k) ns o s a h = settled k s ns o a h
   all-settled (outcome.RefusedLine k c) ns o s a (e, same) =
       only (outcome.RefusedLine k c) o e
-      (tt, whole-says j w (outcome.RefusedLine k c) n.read binary before (says-of j (outcome.RefusedLine k c) n.read binary before F is_input s), same)
+      (tt, whole-of_files j w (outcome.RefusedLine k c) n.read binary before F is_input s, same)
   all-settled outcome.RefusedEnd ns o s a (e, same) =
-      only outcome.RefusedEnd o e (tt, whole-says j w outcome.RefusedEnd n.read binary before (says-of j outcome.RefusedEnd n.read binary before F is_input s), same)
+      only outcome.RefusedEnd o e (tt, whole-of_files j w outcome.RefusedEnd n.read binary before F is_input s, same)
   all-settled (outcome.RefusedInput k c) ns o s a h = absurd s
   all-settled outcome.ReadFault ns o s a (e, same) = only outcome.ReadFault o e (tt, tt, same)
   all-settled outcome.NoMemory ns o s a (e, same) = only outcome.NoMemory o e (tt, tt, same)

@@ -20,7 +20,7 @@ use Rattle.q_run_disprove.specs.declared.certified.Certified.{Certified}
 use Rattle.q_run_disprove.specs.declared.certified.Certified.TheVariants as certified
 use Rattle.q_run_disprove.specs.declared.disproved.Disproved.{Disproved}
 use Rattle.q_run_disprove.specs.declared.disproved.Disproved.TheVariants as outcome
-use Rattle.q_run_disprove.proofs.DisproveStatus.{due, not-due, faulty, false-stays, log-stays, input-stays, line-not, end-not, is-false, disprove-usage}
+use Rattle.q_run_disprove.proofs.DisproveStatus.{due, not-due, faulty, false-stays, log-stays, input-stays, line-not, end-not, plain-false, disprove-usage}
 
 extended-stays : MayCome status.Extended → ⊥
 extended-stays (inl a) = cc
@@ -70,7 +70,7 @@ module _ (given : Status) (n : CertifyFiles) (binary : Bool) (before : Disk) (af
       record {
         disproved = due given status.False (IsPlainDisproof n binary before) e p;
         written = λ x. (k, h);
-        is_false = λ x. is-false given n.read binary before after (record { formula = p.formula; is_input = p.is_input; holds = p.holds.0 });
+        is_false = λ x. plain-false n.read binary before (record { formula = p.formula; is_input = p.is_input; holds = p.holds.0 });
         extended = not-due given status.False status.Extended (IsExtendedDisproof n binary before) e (λ x. cc) (λ q. apart p q);
         log_refused = not-due given status.False status.LogRefused (IsNoDisproof n.read binary before) e (λ x. cc) (λ q. refutes-not p.formula p.is_input p.holds.0 q);
         input_refused = not-due given status.False status.InputRefused (IsNoFormula (bytes_at before n.read.input)) e (λ x. cc) (λ z. z p.formula p.is_input);

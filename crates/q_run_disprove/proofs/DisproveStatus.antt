@@ -1,13 +1,17 @@
 -- When each status of `disprove` comes.
-use Rattle.std.proofs.Common.{◌≡◌, ◌≢◌, inl, inr, ◌∙◌, sym, subst, ℕ, Bool, false, Option, None, Some}
-use Rattle.q_logic.specs.Prelude.{PrenexFormula, Holds, standard}
+use Rattle.std.proofs.Common.{◌≡◌, ◌≢◌, inl, inr, ◌∙◌, sym, subst, ℕ, Bool, true, false, List, Option, None, Some}
+use Rattle.q_logic.specs.Prelude.{PrenexFormula, Holds, IsFormula, begun, standard}
 use Rattle.q_io.specs.Files.{Disk, bytes_at}
+use Rattle.q_log.specs.declared.error.LogError.{LogError}
 use Rattle.q_log.specs.Logs.{Parsed}
+use Rattle.q_shares.specs.Shares.{judged}
 use Rattle.q_refutation.specs.Refutations.{RefusedAt}
+use Rattle.q_shown.specs.HintedRefutations.{HintedRefusedAt}
+use Rattle.q_shown.proofs.HintedRefuting.{hinted-false, hinted-number, hinted_not-both, number-hinted}
 use Rattle.q_refutation.proofs.Refuting.{refutes-false}
 use Rattle.q_refutation.proofs.Refusing.{refutes-number, number-refutes, not-both}
 use Rattle.q_command.specs.Checks.{IsNoFormula, MayCome, Exactly}
-use Rattle.q_command.specs.Logs.{steps_of}
+use Rattle.q_command.specs.Logs.{HintedEntry, hinted_of, steps_of}
 use Rattle.q_command.specs.Sinks.{SinkView, IsDue}
 use Rattle.q_command.specs.declared.status.Status.{Status}
 use Rattle.q_command.specs.declared.status.Status.TheVariants as status
@@ -15,9 +19,19 @@ use Rattle.q_command.proofs.CheckStatus.{one_formula, no_offence}
 use Rattle.q_command.proofs.FileFormulas.{file-formula}
 use Rattle.q_command.proofs.ToldLaws.{ToldLaws, exact}
 use Rattle.q_run_disprove.specs.DisprovedLines.{status_of_disproved}
-use Rattle.q_run_disprove.specs.Disproofs.{DisproveFiles, DisprovesExactly, Disproves, EndFails, InputIsFalse, IsDisproof, IsNoDisproof, IsRefutation, LineFails, Says, proof_of, told}
+use Rattle.q_run_disprove.specs.Disproofs.{DisproveFiles, EndFails, InputIsFalse, IsRefutation, LineFails, OfFiles, SaysOf, proof_of}
+use Rattle.q_run_disprove.specs.HintedDisproofs.{Disproves, DisprovesExactly, HintedSays, IsDisproof, IsHintedRefutation, IsNoDisproof, Refutes, Tells, TellsFiles, hinted_proof, is_hinted, offence_in, told}
 use Rattle.q_run_disprove.specs.declared.disproved.Disproved.{Disproved}
 use Rattle.q_run_disprove.specs.declared.disproved.Disproved.TheVariants as outcome
+
+-- the proof is read, and does not refute
+abbrev IsRefusal : Disproved → Type 0
+IsRefusal (outcome.False n) = ⊥
+IsRefusal (outcome.RefusedLine n c) = Unit {0}
+IsRefusal outcome.RefusedEnd = Unit {0}
+IsRefusal (outcome.RefusedInput n c) = ⊥
+IsRefusal outcome.ReadFault = ⊥
+IsRefusal outcome.NoMemory = ⊥
 
 -- what is refused is no refutation
 refused-not : (F : PrenexFormula) (p : Parsed) (at : ℕ) (cause : Option ℕ) → RefusedAt false standard F (steps_of p.steps) at cause → IsRefutation F p → ⊥
@@ -31,6 +45,55 @@ line-not k c F p (inr ((at, r), o)) h = refused-not F p at None r h
 
 pub end-not : (F : PrenexFormula) (p : Parsed) → EndFails F p → IsRefutation F p → ⊥
 end-not F p ((at, r), o) h = refused-not F p at None r h
+
+-- what a refusal says is no refutation
+not-refuted : (o : Disproved) (F : PrenexFormula) (p : Parsed) → IsRefusal o → SaysOf o F p → IsRefutation F p → ⊥
+not-refuted (outcome.False n) F p i h r = i
+not-refuted (outcome.RefusedLine k c) F p i h r = line-not k c F p h r
+not-refuted outcome.RefusedEnd F p i h r = end-not F p h r
+not-refuted (outcome.RefusedInput k c) F p i h r = h
+not-refuted outcome.ReadFault F p i h r = i
+not-refuted outcome.NoMemory F p i h r = i
+
+hinted-refused : (F : PrenexFormula) (hs : List HintedEntry) (at : ℕ) (cause : Option ℕ) → HintedRefusedAt standard (begun F) (hinted_of hs) at cause →
+    IsHintedRefutation F hs → ⊥
+hinted-refused F hs at cause r h =
+    let n = hinted-number standard (begun F) (hinted_of hs) h in
+    hinted_not-both standard (begun F) (hinted_of hs) n.0 at cause n.1 r
+
+not-hinted : (o : Disproved) (F : PrenexFormula) (hs : List HintedEntry) (r : Option LogError) → IsRefusal o → HintedSays o F hs r → IsHintedRefutation F hs → ⊥
+not-hinted (outcome.False n) F hs r i h k = i
+not-hinted (outcome.RefusedLine n c) F hs r i (inl (at, x, l)) k = hinted-refused F hs at (Some c) x k
+not-hinted (outcome.RefusedLine n c) F hs r i (inr ((at, x), l)) k = hinted-refused F hs at None x k
+not-hinted outcome.RefusedEnd F hs r i ((at, x), l) k = hinted-refused F hs at None x k
+not-hinted (outcome.RefusedInput n c) F hs r i h k = h
+not-hinted outcome.ReadFault F hs r i h k = i
+not-hinted outcome.NoMemory F hs r i h k = i
+
+-- with hints or without
+module _ (binary : Bool) (bytes : List ℕ) (F : PrenexFormula) where
+  told-not : (o : Disproved) → IsRefusal o → Tells o binary bytes F → Refutes binary bytes F → ⊥
+  told-not o i h r = go (is_hinted binary bytes) h r
+    where
+      go : (b : Bool) → judged b (HintedSays o F (hinted_proof binary bytes) (offence_in binary bytes)) (SaysOf o F (proof_of binary bytes)) →
+          judged b (IsHintedRefutation F (hinted_proof binary bytes)) (IsRefutation F (proof_of binary bytes)) → ⊥
+      go true h r = not-hinted o F (hinted_proof binary bytes) (offence_in binary bytes) i h r
+      go false h r = not-refuted o F (proof_of binary bytes) i h r
+
+  told-false : (k : ℕ) → Tells (outcome.False k) binary bytes F → Refutes binary bytes F
+  told-false k h = go (is_hinted binary bytes) h
+    where
+      go : (b : Bool) → judged b (HintedSays (outcome.False k) F (hinted_proof binary bytes) (offence_in binary bytes)) (SaysOf (outcome.False k) F (proof_of binary bytes)) →
+          judged b (IsHintedRefutation F (hinted_proof binary bytes)) (IsRefutation F (proof_of binary bytes))
+      go true h = number-hinted standard (begun F) (hinted_of (hinted_proof binary bytes)) k h
+      go false h = number-refutes false standard F (steps_of (proof_of binary bytes).steps) k h
+
+  refuted-false : IsFormula F → Refutes binary bytes F → Holds F → ⊥
+  refuted-false f r t = go (is_hinted binary bytes) r
+    where
+      go : (b : Bool) → judged b (IsHintedRefutation F (hinted_proof binary bytes)) (IsRefutation F (proof_of binary bytes)) → ⊥
+      go true r = hinted-false standard F (hinted_of (hinted_proof binary bytes)) f r t
+      go false r = refutes-false false standard F (steps_of (proof_of binary bytes).steps) f r t
 
 -- an answer that is due, one that does not come, and one in whose place a fault came
 pub due : (given s : Status) (P : Type 0) → given ≡ s → P → Exactly given s P
@@ -57,6 +120,13 @@ input-stays (inl a) = cc
 input-stays (inr (inl a)) = cc
 input-stays (inr (inr a)) = cc
 
+-- a proof that is judged as if it had no hints
+pub plain-false : (n : DisproveFiles) (binary : Bool) (before : Disk) → OfFiles n binary before IsRefutation → InputIsFalse n before
+plain-false n binary before p F f h =
+    let e : p.formula ≡ F = one_formula (bytes_at before n.input) p.formula F p.is_input f in
+    refutes-false false standard p.formula (steps_of (proof_of binary (bytes_at before n.proof)).steps)
+    (file-formula (bytes_at before n.input) p.formula p.is_input) p.holds (subst Holds (sym e) h)
+
 module _ (given : Status) (n : DisproveFiles) (binary : Bool) (before : Disk) (after : Option Disk) where
   abbrev Result : Type 0
   Result = DisprovesExactly given n binary before after
@@ -64,14 +134,13 @@ module _ (given : Status) (n : DisproveFiles) (binary : Bool) (before : Disk) (a
   -- the file holds one formula
   apart : IsDisproof n binary before → IsNoDisproof n binary before → ⊥
   apart p q =
-      q.holds (subst (λ (F : PrenexFormula). IsRefutation F (proof_of binary (bytes_at before n.proof)))
+      q.holds (subst (Refutes binary (bytes_at before n.proof))
       (one_formula (bytes_at before n.input) p.formula q.formula p.is_input q.is_input) p.holds)
 
   pub is-false : IsDisproof n binary before → InputIsFalse n before
   is-false p F f h =
       let e : p.formula ≡ F = one_formula (bytes_at before n.input) p.formula F p.is_input f in
-      refutes-false false standard p.formula (steps_of (proof_of binary (bytes_at before n.proof)).steps)
-      (file-formula (bytes_at before n.input) p.formula p.is_input) p.holds (subst Holds (sym e) h)
+      refuted-false binary (bytes_at before n.proof) p.formula (file-formula (bytes_at before n.input) p.formula p.is_input) p.holds (subst Holds (sym e) h)
 
   disproved : IsDisproof n binary before → after ≡ Some before → given ≡ status.False → Result
   disproved p same e = record {
@@ -109,13 +178,13 @@ module _ (given : Status) (n : DisproveFiles) (binary : Bool) (before : Disk) (a
     untouched = same;
   }
 
-  due-answers : (o : Disproved) → Says o n binary before → after ≡ Some before → given ≡ status_of_disproved o → Result
+  due-answers : (o : Disproved) → TellsFiles o n binary before → after ≡ Some before → given ≡ status_of_disproved o → Result
   due-answers (outcome.False k) h same e =
-      disproved (record { formula = h.formula; is_input = h.is_input; holds = number-refutes false standard h.formula _ k h.holds }) same e
+      disproved (record { formula = h.formula; is_input = h.is_input; holds = told-false binary (bytes_at before n.proof) h.formula k h.holds }) same e
   due-answers (outcome.RefusedLine k c) h same e =
-      refused (record { formula = h.formula; is_input = h.is_input; holds = line-not k c h.formula _ h.holds }) same e
+      refused (record { formula = h.formula; is_input = h.is_input; holds = told-not binary (bytes_at before n.proof) h.formula (outcome.RefusedLine k c) tt h.holds }) same e
   due-answers outcome.RefusedEnd h same e =
-      refused (record { formula = h.formula; is_input = h.is_input; holds = end-not h.formula _ h.holds }) same e
+      refused (record { formula = h.formula; is_input = h.is_input; holds = told-not binary (bytes_at before n.proof) h.formula outcome.RefusedEnd tt h.holds }) same e
   due-answers (outcome.RefusedInput k c) h same e = no-formula (λ F f. no_offence (bytes_at before n.input) F k c h f) same e
   due-answers outcome.ReadFault h same e = fault (inl e) same
   due-answers outcome.NoMemory h same e = fault (inr (inr e)) same

@@ -1,5 +1,7 @@
 pub mod NotedSteps
 pub mod DisproofSteps
+pub mod HintedSteps
+pub mod JudgedSteps
 pub mod DisproofReading
 pub mod DisproveOutcome
 pub mod DisproveStatus

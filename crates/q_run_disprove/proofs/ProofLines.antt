@@ -1,14 +1,20 @@
 -- The lines of a proof's steps rise, and its offence stands behind them; in a binary proof these are the numbers of the steps.
-use Rattle.std.proofs.Common.{◌≡◌, ◌≤◌, ◌+◌, ℕ, zero, suc, nat_le, Bool, true, false, List, [], ◌∷◌, length, take, if◌then◌else◌, Option, Some, None, sym, subst, arith}
+use Rattle.std.proofs.Common.{◌≡◌, ◌≤◌, ◌+◌, ℕ, zero, suc, nat_le, Bool, true, false, List, [], ◌∷◌, length, take, if◌then◌else◌, inl, inr, Option, Some, None, sym, subst, arith}
 use Rattle.q_log.specs.declared.error.LogError.{LogError}
 use Rattle.q_log.specs.declared.error.LogError.TheVariants.{BadLine, Limit, NoMemory}
 use Rattle.q_log.specs.Logs.{Parsed}
 use Rattle.q_log.specs.Logs as logs
+use Rattle.q_hinted.specs.Logs.{Entry as BothEntry, Entries, hinted_in, plain_entries, read_entries, tokens_within}
+use Rattle.q_hinted.proofs.Profiles.{parts-read, plain-read}
 use Rattle.q_binary.specs.BinaryProofs as binary
 use Rattle.q_binary.specs.Forms.{is_binary, read_proof}
-use Rattle.q_command.specs.Logs.{Entry, IsOffence}
+use Rattle.q_command.specs.Judging.{bare}
+use Rattle.q_command.specs.Logs.{Entry, HintedEntry, IsOffence, stripped}
+use Rattle.q_command.proofs.LogEntries.{bare-hinted, bare-plain}
+use Rattle.q_parts.proofs.RisingEntries.{RiseHinted, hinted-log-rises}
 use Rattle.q_parts.proofs.RisingLines as lines
-use Rattle.q_run_disprove.specs.Disproofs.{IsOnLine}
+use Rattle.q_run_disprove.specs.Disproofs.{IsOnLine, bare_of}
+use Rattle.q_run_disprove.proofs.JudgedSteps.{either-profile}
 
 abbrev pub Rises : ℕ → List Entry → Option LogError → Type 0
 Rises n es r = lines.Rises n es r
@@ -44,15 +50,32 @@ binary-rises limit bytes = go (nat_le (length bytes) limit)
     go true = parsed-rises binary.at_end ends 1 binary.between bytes
     go false = parsed-rises binary.past_limit (λ k p. lines.itself k) 1 binary.between (take limit bytes)
 
-pub proof-rises : (forced : Bool) (limit : ℕ) (bytes : List ℕ) → Rises 1 (read_proof forced limit bytes).steps (read_proof forced limit bytes).refused
+-- so do those of a log of either profile
+stripped-rises : (n : ℕ) (hs : List HintedEntry) (r : Option LogError) → RiseHinted n hs r → Rises n (stripped hs) r
+stripped-rises n [] r f = f
+stripped-rises n (h ∷ hs) r f = (f.0, stripped-rises h.0 hs r f.1)
+
+text-rises : (limit : ℕ) (bytes : List ℕ) → Rises 1 (bare (read_entries limit bytes).entries) (read_entries limit bytes).refused
+text-rises limit bytes = elim (either-profile (tokens_within limit bytes)) [
+  | inl p ↦
+      subst (λ (o : Entries). Rises 1 (bare o.entries) o.refused) (sym (plain-read limit bytes p))
+      (subst (λ (es : List Entry). Rises 1 es (logs.read limit bytes).refused) (sym (bare-plain (logs.read limit bytes).steps)) (lines.log-rises limit bytes))
+  | inr p ↦
+      subst (λ (es : List BothEntry). Rises 1 (bare es) (read_entries limit bytes).refused) (sym (parts-read limit bytes p))
+      (subst (λ (es : List Entry). Rises 1 es (read_entries limit bytes).refused) (sym (bare-hinted (hinted_in (read_entries limit bytes).entries)))
+      (stripped-rises 1 (hinted_in (read_entries limit bytes).entries) (read_entries limit bytes).refused (hinted-log-rises limit bytes)))
+]
+
+pub proof-rises : (forced : Bool) (limit : ℕ) (bytes : List ℕ) → Rises 1 (bare_of (read_proof forced limit bytes)).steps (bare_of (read_proof forced limit bytes)).refused
 proof-rises forced limit bytes = go (is_binary forced bytes)
   where
     go : (x : Bool) →
         Rises 1
-        (if x then binary.read limit bytes else logs.read limit bytes).steps
-        (if x then binary.read limit bytes else logs.read limit bytes).refused
-    go true = binary-rises limit bytes
-    go false = lines.log-rises limit bytes
+        (bare_of (if x then plain_entries (binary.read limit bytes) else read_entries limit bytes)).steps
+        (bare_of (if x then plain_entries (binary.read limit bytes) else read_entries limit bytes)).refused
+    go true =
+        subst (λ (es : List Entry). Rises 1 es (binary.read limit bytes).refused) (sym (bare-plain (binary.read limit bytes).steps)) (binary-rises limit bytes)
+    go false = text-rises limit bytes
 
 -- an offence stands no earlier
 offence-from : (a : ℕ) (r : Option LogError) (n c : ℕ) → lines.IsFrom a r → IsOffence r n c → a ≤ n

@@ -1,22 +1,28 @@
 -- Parts that say `verified` make a proof that is disproved, and where parts refuse, the least line is that of the whole.
-use Rattle.std.proofs.Common.{◌≡◌, ◌≤◌, ◌<◌, inl, inr, refl, subst, arith, ℕ, zero, suc, Bool, false, List, [], ◌∷◌, length, Option, Some, None, sum}
+use Rattle.std.proofs.Common.{◌≡◌, ◌≤◌, ◌<◌, ◌∙◌, inl, inr, refl, sym, ap, subst, arith, ℕ, zero, suc, Bool, true, false, List, [], ◌∷◌, length, Option, Some, None, sum}
 use Rattle.q_logic.specs.declared.limits.Limits.{Limits}
-use Rattle.q_logic.specs.Prelude.{PrenexFormula, IsIn, ProofStep, after, standard}
+use Rattle.q_logic.specs.Prelude.{PrenexFormula, IsIn, ProofStep, after, begun, standard, strip}
 use Rattle.q_io.specs.Files.{Disk, bytes_at}
 use Rattle.q_log.specs.declared.error.LogError.{LogError}
 use Rattle.q_log.specs.declared.error.LogError.TheVariants.{BadLine, Limit, NoMemory}
 use Rattle.q_log.specs.Logs.{Parsed}
-use Rattle.q_shares.specs.Shares.{AreDealt, Share, shares_of}
-use Rattle.q_refutation.specs.Refutations.{RefusedAt}
+use Rattle.q_hinted.specs.Logs.{Entry as BothEntry}
+use Rattle.q_shares.specs.Shares.{AreDealt, Share, judged, shares_of}
+use Rattle.q_refutation.specs.Refutations.{RefusedAt, Refutes}
 use Rattle.q_refutation.specs.SharedRefutations.{AllSharedIn}
 use Rattle.q_refutation.proofs.Refusing.{number-refutes}
 use Rattle.q_refutation.proofs.SharedRefuting.{numbers-add, refutes-shared, shared-number, bad-told, none-before, end-told}
-use Rattle.q_command.specs.Logs.{Entry, steps_of, IsOffence}
+use Rattle.q_shown.proofs.HintedRefuting.{hinted-refutes, number-hinted}
+use Rattle.q_command.specs.Judging.{bare}
+use Rattle.q_command.specs.Logs.{Entry, hinted_of, steps_of, IsOffence}
 use Rattle.q_command.specs.declared.outcome.Outcome.TheVariants as shared
 use Rattle.q_command.proofs.CheckStatus.{one_formula}
-use Rattle.q_run_disprove.specs.Disproofs.{DisproveFiles, IsOnLine, LineFails, Says, proof_of}
+use Rattle.q_command.proofs.LogEntries.{bare-hinted, stripped-steps}
+use Rattle.q_run_disprove.specs.Disproofs.{DisproveFiles, IsOnLine, IsRefutation, LineFails, OfFiles, Says, SaysOf, proof_of}
+use Rattle.q_run_disprove.specs.HintedDisproofs.{HintedSays, Tells, TellsFiles, hinted_proof, is_hinted, offence_in}
 use Rattle.q_run_disprove.specs.SharedDisproofs.{AllPartsVerified, IsShareRefutationIn, PartSays, ShareLineFails}
 use Rattle.q_run_disprove.specs.declared.disproved.Disproved.TheVariants as outcome
+use Rattle.q_run_disprove.proofs.JudgedSteps.{hinted-entries}
 use Rattle.q_run_disprove.proofs.ProofLines.{Rises, line-from, lines-rise, proof-rises}
 
 -- the parts say so of one formula
@@ -116,3 +122,32 @@ end-of-all j n binary disk h =
         holds = ((f.0.0, end-told j standard 0 h.formula (steps_of (proof_of binary (bytes_at disk n.proof)).steps) f.0.0 f.0.1), f.1);
       },
     )
+
+-- a log with hints is a refutation without them too
+hinted-bare : (binary : Bool) (bytes : List ℕ) → is_hinted binary bytes ≡ true →
+    steps_of (proof_of binary bytes).steps ≡ strip (hinted_of (hinted_proof binary bytes))
+hinted-bare binary bytes h =
+    ap (λ (es : List BothEntry). steps_of (bare es)) (hinted-entries binary bytes h)
+    ∙ (ap steps_of (bare-hinted (hinted_proof binary bytes)) ∙ stripped-steps (hinted_proof binary bytes))
+
+told-bare : (m : ℕ) (binary : Bool) (bytes : List ℕ) (F : PrenexFormula) → Tells (outcome.False m) binary bytes F → IsRefutation F (proof_of binary bytes)
+told-bare m binary bytes F h = go (is_hinted binary bytes) refl h
+  where
+    go : (b : Bool) → is_hinted binary bytes ≡ b →
+        judged b (HintedSays (outcome.False m) F (hinted_proof binary bytes) (offence_in binary bytes)) (SaysOf (outcome.False m) F (proof_of binary bytes)) →
+        IsRefutation F (proof_of binary bytes)
+    go true e h =
+        subst (λ (ss : List ProofStep). Refutes false standard F ss) (sym (hinted-bare binary bytes e))
+        (hinted-refutes standard F (hinted_of (hinted_proof binary bytes)) (number-hinted standard (begun F) (hinted_of (hinted_proof binary bytes)) m h))
+    go false e h = number-refutes false standard F (steps_of (proof_of binary bytes).steps) m h
+
+pub hinted-disproved : (m : ℕ) (n : DisproveFiles) (binary : Bool) (disk : Disk) → TellsFiles (outcome.False m) n binary disk → OfFiles n binary disk IsRefutation
+hinted-disproved m n binary disk h =
+    record { formula = h.formula; is_input = h.is_input; holds = told-bare m binary (bytes_at disk n.proof) h.formula h.holds }
+
+pub hinted-parts : (j : Share) (m : ℕ) (n : DisproveFiles) (binary : Bool) (disk : Disk) → TellsFiles (outcome.False m) n binary disk →
+    (k : ℕ) × PartSays j (shared.Verified k) n binary disk
+hinted-parts j m n binary disk h =
+    let ss : List ProofStep = steps_of (proof_of binary (bytes_at disk n.proof)).steps in
+    let r = shared-number j standard 0 h.formula ss (refutes-shared j standard 0 h.formula ss (told-bare m binary (bytes_at disk n.proof) h.formula h.holds)) in
+    (r.0, record { formula = h.formula; is_input = h.is_input; holds = r.1 })

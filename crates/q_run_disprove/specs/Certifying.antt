@@ -7,8 +7,9 @@ use Rattle.q_aiger.specs.Writing.{IsCanonical}
 use Rattle.q_refutation.specs.Refutations.{IsLost}
 use Rattle.q_herbrand.specs.Disproved.{IsDisproved}
 use Rattle.q_herbrand.specs.Trails.{HasMade, Trailed}
-use Rattle.q_command.specs.Checks.{IsNoFormula, Exactly}
+use Rattle.q_command.specs.Checks.{IsNoFormula, Exactly, input_then}
 use Rattle.q_command.specs.Logs.{steps_of}
+use Rattle.q_command.specs.FirstFaults.{untold}
 use Rattle.q_command.specs.Told.{Told, OrNoMemory}
 use Rattle.q_command.specs.declared.status.Status.{Status}
 use Rattle.q_command.specs.declared.status.Status.TheVariants as status
@@ -134,4 +135,6 @@ told n binary = record {
       × (IsNoDisproof n.read binary disk → OrNoMemory given status.LogRefused);
   reads = names_read n;
   writes = names_written n;
+  reads_at = input_then n.read.input n.read.proof;
+  writes_at = untold (names_written n);
 }

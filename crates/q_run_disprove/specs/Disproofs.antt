@@ -1,22 +1,20 @@
--- What `disprove` says of its files.
-use Rattle.std.specs.Prelude.{◌≡◌, ◌⊎◌, ℕ, zero, suc, Bool, false, List, [], ◌∷◌, Option, None, Some}
+-- What `disprove` says of its files, where the steps of PROOF are judged as if they had no proof parts.
+use Rattle.std.specs.Prelude.{◌≡◌, ◌⊎◌, ℕ, zero, suc, Bool, false, List, [], ◌∷◌, None, Some}
 use Rattle.q_logic.specs.Prelude.{standard, PrenexFormula, Holds}
 use Rattle.q_io.specs.Files.{Disk, bytes_at}
 use Rattle.q_dimacs.specs.Offences.{Offence}
 use Rattle.q_log.specs.Logs.{Parsed}
+use Rattle.q_hinted.specs.Logs.{Entries}
 use Rattle.q_binary.specs.Forms.{read_proof}
 use Rattle.q_refutation.specs.Refutations.{Refutation, RefutedIn, RefusedAt}
-use Rattle.q_command.specs.Checks.{IsFileOf, IsNoFormula, Exactly}
+use Rattle.q_command.specs.Checks.{IsFileOf}
+use Rattle.q_command.specs.Judging.{bare}
 use Rattle.q_command.specs.Logs.{Entry, steps_of, IsOffence}
-use Rattle.q_command.specs.Told.{Told, OrNoMemory}
 use Rattle.q_command.specs.declared.input.InputError.{InputError}
 use Rattle.q_command.specs.declared.input.InputError.TheVariants as input
-use Rattle.q_command.specs.declared.status.Status.{Status}
-use Rattle.q_command.specs.declared.status.Status.TheVariants as status
 use Rattle.q_run_disprove.specs.declared.names.DisproveNames.{DisproveNames}
 use Rattle.q_run_disprove.specs.declared.disproved.Disproved.{Disproved}
 use Rattle.q_run_disprove.specs.declared.disproved.Disproved.TheVariants as outcome
-use Rattle.q_run_disprove.specs.DisprovedLines.{line_of_disproved, status_of_disproved}
 
 -- the names of the two files
 pub record DisproveFiles : Type 0 where
@@ -36,9 +34,17 @@ refused_input (input.Refused k c) = outcome.RefusedInput k c
 refused_input input.Fault = outcome.ReadFault
 refused_input input.NoMemory = outcome.NoMemory
 
--- the steps of a proof up to its first offence, and this offence; where `binary` is set, what can be either is a binary proof
+-- the steps of a proof up to its first offence, each with its proof part if it has one, and this offence; where `binary` is set, what can
+-- be either is a binary proof
+abbrev pub entries_in : Bool → List ℕ → Entries
+entries_in binary bytes = read_proof binary standard.bytes bytes
+
+-- without the proof parts
+abbrev pub bare_of : Entries → Parsed
+bare_of o = record { steps = bare o.entries; refused = o.refused }
+
 abbrev pub proof_of : Bool → List ℕ → Parsed
-proof_of binary bytes = read_proof binary standard.bytes bytes
+proof_of binary bytes = bare_of (entries_in binary bytes)
 
 -- the steps lead to the empty clause; what is behind it is not looked at
 abbrev pub IsRefutation : PrenexFormula → Parsed → Type 0
@@ -95,9 +101,6 @@ Says (outcome.RefusedInput k c) n binary disk = Offence standard (bytes_at disk 
 Says outcome.ReadFault n binary disk = Unit {0}
 Says outcome.NoMemory n binary disk = Unit {0}
 
-abbrev pub Disproves : Disproved → DisproveFiles → Bool → Disk → Option Disk → Type 0
-Disproves o n binary before after = Says o n binary before × (after ≡ Some before)
-
 -- PROOF refutes the formula of IN, or it does not
 abbrev pub IsDisproof : DisproveFiles → Bool → Disk → Type 0
 IsDisproof n binary disk = OfFiles n binary disk IsRefutation
@@ -108,25 +111,3 @@ IsNoDisproof n binary disk = OfFiles n binary disk (λ F p. ¬ IsRefutation F p)
 -- the formula of IN is false
 abbrev pub InputIsFalse : DisproveFiles → Disk → Type 0
 InputIsFalse n disk = (F : PrenexFormula) → IsFileOf (bytes_at disk n.input) F → ¬ Holds F
-
--- when each status of `disprove` comes; no file changes
-pub record DisprovesExactly (given : Status) (n : DisproveFiles) (binary : Bool) (before : Disk) (after : Option Disk) : Type 0 where
-  pub disproved : Exactly given status.False (IsDisproof n binary before)
-  pub is_false : given ≡ status.False → InputIsFalse n before
-  pub log_refused : Exactly given status.LogRefused (IsNoDisproof n binary before)
-  pub input_refused : Exactly given status.InputRefused (IsNoFormula (bytes_at before n.input))
-  pub untouched : after ≡ Some before
-
--- the command; a proof refutes the formula or is refused
-abbrev pub told : DisproveFiles → Bool → Told
-told n binary = record {
-  Outcome = Disproved;
-  status_of = status_of_disproved;
-  line_of = line_of_disproved;
-  says = λ o disk after. Disproves o n binary disk after;
-  gives = λ given disk after. DisprovesExactly given n binary disk after;
-  answers = λ disk given.
-      (IsDisproof n binary disk → OrNoMemory given status.False) × (IsNoDisproof n binary disk → OrNoMemory given status.LogRefused);
-  reads = names_read n;
-  writes = [];
-}

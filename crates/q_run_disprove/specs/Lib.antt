@@ -8,3 +8,7 @@ pub mod Readings
 pub mod CertifiedLines
 pub mod Certifying
 pub mod Settling
+pub mod HintedDisproofs
+pub mod HintedReadings
+pub mod Judges
+pub mod JudgedReadings

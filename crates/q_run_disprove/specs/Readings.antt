@@ -1,12 +1,11 @@
--- A proof whose steps are made while it is read.
-use Rattle.std.specs.Prelude.{◌≡◌, ◌⊎◌, ◌≤◌, ◌+◌, ℕ, Bool, true, false, cond, List, [], ◌++◌, length, take, drop, Option, None, Some, Result, Ok, Err}
+-- Steps of a proof that are made while it is read, and judged as if they had no proof parts.
+use Rattle.std.specs.Prelude.{◌≡◌, ◌≤◌, ◌+◌, ℕ, Bool, true, false, cond, List, [], length}
 use Rattle.q_logic.specs.declared.steps.Kind.{Kind}
 use Rattle.q_logic.specs.declared.steps.Kind.TheVariants as kind
 use Rattle.q_logic.specs.Prelude.{PrenexFormula, AreAlike, ProofStep, after, standard}
 use Rattle.q_log.specs.declared.error.LogError.{LogError}
 use Rattle.q_log.specs.declared.error.LogError.TheVariants as log
-use Rattle.q_log.specs.Logs.{Parsed, behind}
-use Rattle.q_binary.specs.Forms.{left_of, to_come}
+use Rattle.q_log.specs.Logs.{Parsed}
 use Rattle.q_judge.specs.declared.error.CheckError.{CheckError}
 use Rattle.q_judge.specs.declared.error.CheckError.TheVariants as check
 use Rattle.q_shares.specs.Shares.{Share, count}
@@ -15,13 +14,10 @@ use Rattle.q_refutation.specs.SharedRefutations.{AreTakenUnlost, MayBeTaken, Not
 use Rattle.q_command.specs.Logs.{Entry, steps_of}
 use Rattle.q_command.specs.Parts.{share_of}
 use Rattle.q_command.specs.declared.part.Part.{Part}
-use Rattle.q_run_disprove.specs.Disproofs.{proof_of}
 use Rattle.q_run_disprove.specs.SharedDisproofs.{SaysShared}
 use Rattle.q_run_disprove.specs.Notes.{AreAbreast, AreLast, AreNotes, IfFalse, IsNoted, ReachEmpty}
 use Rattle.q_run_disprove.specs.declared.disproved.Disproved.{Disproved}
 use Rattle.q_run_disprove.specs.declared.disproved.Disproved.TheVariants as outcome
-use Rattle.q_run_disprove.specs.declared.form.Form.{Form}
-use Rattle.q_run_disprove.specs.declared.reading.Reading.{Reading}
 use Rattle.q_run_disprove.specs.declared.refuter.Refuter.{Refuter}
 use Rattle.q_run_disprove.specs.declared.verdict.Verdict.{Verdict}
 
@@ -119,12 +115,6 @@ pub record Convicts (v : Verdict) (t : Refuter) (e : Entry) : Type 0 where
   pub says : SaysNext v.outcome t e
   pub noted : IfFalse v.outcome (IsNoted e.0 e.1 t.notes v.notes)
 
--- what the end of the proof tells: there is no step more, or one, or a line that is none
-abbrev pub Concludes : Result (Option Entry) LogError → Refuter → Verdict → Type 0
-Concludes (Ok None) t w = w.outcome ≡ outcome.RefusedEnd
-Concludes (Ok (Some e)) t w = Convicts w t e ⊎ ((w.outcome ≡ outcome.RefusedEnd) × ((new : Refuter) × Goes e.0 e.1 t new))
-Concludes (Err x) t w = w.outcome ≡ log_refused x
-
 -- what is told of a formula and a proof, and with which notes
 pub record SaysWith (keeps : Bool) (j : Share) (v : Verdict) (F : PrenexFormula) (p : Parsed) : Type 0 where
   pub says : SaysShared j v.outcome F p
@@ -139,38 +129,3 @@ pub record IsSoFar (keeps : Bool) (j : Share) (F : PrenexFormula) (es : List Ent
   pub all : t.steps ≡ length es
   pub own : t.own ≡ count j 0 (steps_of es)
   pub notes : AreNotes keeps F es t.notes
-
--- there is room to count a step for each byte
-pub record IsOpen (r : Reading) : Type 0 where
-  pub under_way : IsUnderWay r.refuter
-  pub room : r.refuter.steps + left_of r.reader ≤ 1099511627776
-
--- these bytes of the proof are read, all steps in them are made, and those of the share were judged
-pub record Stands (form : Form) (j : Share) (F : PrenexFormula) (r : Reading) (bytes : List ℕ) : Type 0 where
-  pub entries : List Entry
-  pub proof : (rest : List ℕ) → proof_of form.binary (bytes ++ rest) ≡ behind entries (to_come r.reader rest)
-  pub so_far : IsSoFar form.keeps j F entries r.refuter
-
--- these bytes more are read
-pub record Advances (old new : Reading) (bytes : List ℕ) : Type 0 where
-  pub stands : (form : Form) → (j : Share) → (F : PrenexFormula) → (front : List ℕ) → Stands form j F old front → Stands form j F new (front ++ bytes)
-  pub left : left_of new.reader + length bytes ≡ left_of old.reader
-  pub goes_on : IsOpen new
-
--- it is so of the proof that has these bytes behind those that are read
-abbrev pub Tells : Verdict → Reading → List ℕ → Type 0
-Tells v r bytes =
-    (form : Form) → (j : Share) → (F : PrenexFormula) → (front : List ℕ) → Stands form j F r front →
-    SaysWith form.keeps j v F (proof_of form.binary (front ++ bytes))
-
--- n bytes of the file were taken, from a place on
-pub record HasTaken (file : List ℕ) (place n : ℕ) (old new : Reading) : Type 0 where
-  pub piece : Advances old new (take n (drop place file))
-  pub left : n ≤ length (drop place file)
-  pub end : n ≡ 0 → length file ≤ place
-
--- nothing is read yet, and the proof begins with the formula
-pub record IsStarted (form : Form) (part : Part) (F : PrenexFormula) (r : Reading) : Type 0 where
-  pub stands : Stands form (share_of part) F r []
-  pub left : left_of r.reader ≡ 1099511627776
-  pub goes_on : IsOpen r

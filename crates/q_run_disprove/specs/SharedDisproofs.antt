@@ -7,7 +7,7 @@ use Rattle.q_dimacs.specs.Offences.{Offence}
 use Rattle.q_log.specs.Logs.{Parsed}
 use Rattle.q_shares.specs.Shares.{Share}
 use Rattle.q_refutation.specs.SharedRefutations.{RefusedShared, RefutesShared, SharedIn}
-use Rattle.q_command.specs.Checks.{IsNoFormula, Exactly}
+use Rattle.q_command.specs.Checks.{IsNoFormula, Exactly, input_then}
 use Rattle.q_command.specs.Lines.{line_of}
 use Rattle.q_command.specs.Logs.{steps_of, IsOffence}
 use Rattle.q_command.specs.Parts.{share_of}
@@ -108,6 +108,8 @@ told_part n binary p = record {
       × (IsNoShareDisproof (share_of p) n binary disk → OrNoMemory given status.LogRefused);
   reads = names_read n;
   writes = [];
+  reads_at = input_then n.input n.proof;
+  writes_at = [];
 }
 
 -- each of several says `verified`, with a number of its own

@@ -1,16 +1,18 @@
-// Places for the checker and for the trail. Each stands in a row of one, so that its place is let go by one call.
-ghost use Rattle.std.specs.Prelude.{◌≡◌, ◌↔◌, ◌++◌, ◌∷◌, false, IsTrue, List, [], IfOk, IfErr, OnOk};
-ghost use Rattle.q_logic.specs.Prelude.{AreAlike, IsIn, PrenexFormula, ProofStep, Valid, after, standard};
+// Places for the checkers and for the trail. Each stands in a row of one, so that its place is let go by one call.
+ghost use Rattle.std.specs.Prelude.{◌≡◌, ◌↔◌, ◌<◌, ◌+◌, ◌^◌, ◌++◌, ◌∷◌, false, IsTrue, List, [], IfOk, IfErr, OnOk};
+ghost use Rattle.q_logic.specs.Prelude.{AreAlike, HintedValid, IsIn, PrenexFormula, ProofStep, Valid, after, begun, hinted_after, standard};
 ghost use Rattle.q_logic.specs.Reversals.{IsExtended};
 ghost use Rattle.q_refutation.specs.Refutations.{MayBeMade};
+ghost use Rattle.q_same_steps.specs.HintedMaking.{HintedApplies};
 ghost use Rattle.q_same_steps.specs.Making.{Applies};
 ghost use Rattle.q_check.specs.Checked.{IsRefusal};
-ghost use Rattle.q_check.specs.Replays.{IsUnfitFor};
+ghost use Rattle.q_check.specs.HintChecks.{IsHintRefusal};
+ghost use Rattle.q_check.specs.Replays.{IsHintUnfitFor, IsUnfitFor};
 ghost use Rattle.q_herbrand.specs.Trails.{HasMade, IsNoted};
 
-use q_check::{CheckError, Checker};
+use q_check::{CheckError, Checker, HintChecker};
 use q_herbrand::{Trail, TrailError};
-use q_logic::{Formula, Limits, NoMemory, Step};
+use q_logic::{Formula, Limits, NoMemory, Proof, Step};
 use std::alloc::Global;
 use std::marker::Model;
 
@@ -80,6 +82,82 @@ fn placed_checker(alloc: Global, checker: Checker) -> Result<BoxedChecker, NoMem
     let mut row = Vec::new(alloc);
     row.push(checker)?;
     Ok(BoxedChecker { row })
+}
+
+/// A place that holds a checker of hints.
+#[derive(Drop)]
+pub(crate) struct BoxedHintChecker {
+    row: Vec<HintChecker>,
+}
+
+impl Model for BoxedHintChecker {
+    ghost use Rattle.std.specs.Prelude.{◌≡◌, length};
+    ghost use Rattle.q_check.specs.HintChecks.{HintChecked};
+    ghost use Rattle.q_run_disprove.specs.Boxed.{boxed_hint_checker};
+
+    ghost Value = { HintChecked };
+
+    ghost view = { λ s. boxed_hint_checker s.row.items };
+
+    ghost invariant = { λ s. length s.row.items ≡ 1 };
+}
+
+impl BoxedHintChecker {
+    /// Begins with the formula, whose clauses have the numbers 1, 2 and so on. Nothing can be undone.
+    pub fn start(alloc: Global, formula: &Formula) -> Result<BoxedHintChecker, NoMemory>
+        ensures started { IfOk result (λ c. c ≡ record {
+          formula = begun formula.now;
+          undo = [];
+          limits = standard;
+          keeps = false;
+          steps = 0;
+        }) }
+    {
+        match HintChecker::start(alloc, formula, Limits::standard(), false) {
+            Ok(checker) => placed_hint_checker(alloc, checker),
+            Err(_) => Err(NoMemory),
+        }
+    }
+
+    /// Takes the step if its proof part shows that it is valid.
+    pub fn step(&mut self, step: &Step, proof: &Proof) -> Result<(), CheckError>
+        requires { self.old.steps < 2 ^ 61 }
+        ensures valid { OnOk result (HintedValid self.old.limits self.old.formula step.now
+            proof.now) }
+        ensures after { OnOk result (self.new.formula ≡ hinted_after self.old.formula step.now
+            proof.now) }
+        ensures settings { (self.new.limits ≡ self.old.limits) × (self.new.keeps ≡ self.old.keeps) }
+        ensures steps { OnOk result (self.new.steps ≡ self.old.steps + 1) }
+        ensures refused { IfErr result (IsHintRefusal self.old.limits self.old.formula step.now
+            proof.now) }
+    {
+        self.row[0].step(step, proof)
+    }
+
+    /// Makes the step if it can be made, without a look at its hints.
+    pub fn pass(&mut self, step: &Step, proof: &Proof) -> Result<(), CheckError>
+        requires keeps { self.old.keeps ≡ false }
+        requires count { self.old.steps < 2 ^ 61 }
+        ensures fit { OnOk result (HintedApplies self.old.limits self.old.formula step.now
+            proof.now) }
+        ensures after { OnOk result (self.new.formula ≡ hinted_after self.old.formula step.now
+            proof.now) }
+        ensures kept { (self.new.limits ≡ self.old.limits) × (self.new.keeps ≡ self.old.keeps) }
+        ensures steps { OnOk result (self.new.steps ≡ self.old.steps + 1) }
+        ensures refused { IfErr result (IsHintUnfitFor self.old.limits self.old.formula step.now
+            proof.now) }
+    {
+        self.row[0].pass(step, proof)
+    }
+}
+
+// The checker of hints in a place of its own.
+fn placed_hint_checker(alloc: Global, checker: HintChecker) -> Result<BoxedHintChecker, NoMemory>
+    ensures { IfOk result (λ c. c ≡ checker) }
+{
+    let mut row = Vec::new(alloc);
+    row.push(checker)?;
+    Ok(BoxedHintChecker { row })
 }
 
 /// A place that holds a trail.

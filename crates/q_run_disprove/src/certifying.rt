@@ -1,6 +1,8 @@
 //! `disprove` with circuits: the proof is judged to the empty clause first, and CERT is created then.
 ghost use Rattle.std.specs.Prelude.{◌≡◌, ℕ, List, IfSome};
 ghost use Rattle.q_io.specs.Files.{RoseAmong, RoseFor};
+ghost use Rattle.q_command.specs.Checks.{input_then};
+ghost use Rattle.q_command.specs.FirstFaults.{FaultAt};
 ghost use Rattle.q_command.specs.declared.status.Status.TheVariants as status;
 ghost use Rattle.q_run_disprove.specs.CertifiedLines.{status_of_certified};
 ghost use Rattle.q_run_disprove.specs.Certifying.{Certifies, files_of, names_read, names_written};
@@ -106,6 +108,9 @@ pub fn certify_files<F: Files>(
         Certifies result (files_of names.entry) binary disk (F.held files.new)) }
     ensures read_fault { status_of_certified result ≡ status.ReadFault
         → RoseAmong F.read_faults (names_read (files_of names.entry)) files.old files.new }
+    ensures read_fault_at { status_of_certified result ≡ status.ReadFault
+        → FaultAt F.read_faults (input_then names.entry.input.now names.entry.proof.now)
+        (F.held files.old) (F.held files.new) files.old files.new }
     ensures write_fault { status_of_certified result ≡ status.WriteFault
         → RoseAmong F.write_faults (names_written (files_of names.entry)) files.old files.new }
 {
@@ -120,6 +125,7 @@ pub fn certify_files<F: Files>(
     let form = Form {
         binary,
         keeps: true,
+        hints: false,
     };
     let verdict = judge(alloc, files, names.proof, formula, form, Part::whole());
     settle(alloc, files, names.cert, verdict)

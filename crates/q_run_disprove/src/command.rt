@@ -2,7 +2,8 @@
 ghost use Rattle.q_command.specs.Devices.{devices};
 ghost use Rattle.q_command.specs.Told.{Runs};
 ghost use Rattle.q_run_disprove.specs.Certifying.{files_of as certify_files_of, told as told_certified};
-ghost use Rattle.q_run_disprove.specs.Disproofs.{files_of, told};
+ghost use Rattle.q_run_disprove.specs.Disproofs.{files_of};
+ghost use Rattle.q_run_disprove.specs.HintedDisproofs.{told};
 
 use crate::certifying::certify_files;
 use crate::disproving::disprove_files;

@@ -1,13 +1,16 @@
 // IN is read whole, and PROOF as far as it counts.
-ghost use Rattle.std.specs.Prelude.{◌≡◌, ◌≢◌, IfSome, true};
+ghost use Rattle.std.specs.Prelude.{◌≡◌, ◌≢◌, IfSome, true, false};
 ghost use Rattle.q_io.specs.Files.{RoseAmong, RoseFor, bytes_at};
+ghost use Rattle.q_command.specs.Checks.{input_then};
+ghost use Rattle.q_command.specs.FirstFaults.{FaultAt};
 ghost use Rattle.q_command.specs.Reading.{OnlyReadsFiles};
 ghost use Rattle.q_command.specs.Parts.{IsWhole, share_of};
 ghost use Rattle.q_command.specs.declared.status.Status.TheVariants as status;
 ghost use Rattle.q_run_disprove.specs.DisprovedLines.{status_of_disproved};
-ghost use Rattle.q_run_disprove.specs.Disproofs.{Disproves, files_of, names_read, proof_of, refused_input as input_refused};
-ghost use Rattle.q_run_disprove.specs.Readings.{IsReady, SaysWith};
-ghost use Rattle.q_run_disprove.specs.SharedDisproofs.{PartDisproves, told_by_part};
+ghost use Rattle.q_run_disprove.specs.Disproofs.{files_of, names_read, refused_input as input_refused};
+ghost use Rattle.q_run_disprove.specs.HintedDisproofs.{Disproves, SaysOfFiles};
+ghost use Rattle.q_run_disprove.specs.JudgedReadings.{SaysOfBytes};
+ghost use Rattle.q_run_disprove.specs.Readings.{IsReady};
 
 use crate::disproved::Disproved;
 use crate::form::Form;
@@ -29,7 +32,7 @@ pub(crate) fn refused_input(error: InputError) -> Disproved
     }
 }
 
-/// How the reading of a proof ends that begins with a formula, where steps of the part are judged and counted.
+/// How the reading of a proof ends that begins with a formula, where steps of the part are judged and counted; by hints all are.
 pub(crate) fn judge<F: Files>(
     alloc: Global,
     files: &mut F,
@@ -38,9 +41,10 @@ pub(crate) fn judge<F: Files>(
     form: Form,
     part: Part,
 ) -> Verdict
-    requires { form.keeps ≡ true → IsWhole (share_of part) }
+    requires whole { form.keeps ≡ true → IsWhole (share_of part) }
+    requires apart { form.hints ≡ true → form.keeps ≡ false }
     ensures says { IfSome (F.held files.old) (λ disk.
-        SaysWith form.keeps (share_of part) result formula (proof_of form.binary (bytes_at disk name.now))) }
+        SaysOfBytes form (share_of part) result formula (bytes_at disk name.now)) }
     ensures ready { IsReady result }
     ensures fault { result.outcome ≡ Disproved.ReadFault
         → RoseFor F.read_faults name.now files.old files.new }
@@ -55,19 +59,23 @@ pub(crate) fn judge<F: Files>(
     }
 }
 
-/// What there is to say over the files of these names, where steps of the part are judged and counted.
+/// What there is to say over the files of these names, where steps of the part are judged and counted. Where hints count, all steps of a
+/// log with hints are judged by these.
 pub(crate) fn disprove_shared<F: Files>(
     alloc: Global,
     files: &mut F,
     names: DisproveNames,
     binary: bool,
+    hints: bool,
     part: Part,
 ) -> Disproved
-    ensures disproves { IfSome (F.held files.old) (λ disk.
-        PartDisproves (share_of part) (told_by_part result) (files_of names.entry) binary disk
-        (F.held files.new)) }
+    ensures says { IfSome (F.held files.old) (λ disk.
+        SaysOfFiles hints binary (share_of part) result (files_of names.entry) disk) }
     ensures read_fault { status_of_disproved result ≡ status.ReadFault
         → RoseAmong F.read_faults (names_read (files_of names.entry)) files.old files.new }
+    ensures read_fault_at { status_of_disproved result ≡ status.ReadFault
+        → FaultAt F.read_faults (input_then names.entry.input.now names.entry.proof.now)
+        (F.held files.old) (F.held files.new) files.old files.new }
     ensures write_fault { status_of_disproved result ≢ status.WriteFault }
     ensures held { F.held files.new ≡ F.held files.old }
 {
@@ -78,6 +86,7 @@ pub(crate) fn disprove_shared<F: Files>(
     let form = Form {
         binary,
         keeps: false,
+        hints,
     };
     let verdict = judge(alloc, files, names.proof, formula, form, part);
     verdict.outcome
@@ -94,8 +103,11 @@ pub fn disprove_files<F: Files>(
         Disproves result (files_of names.entry) binary disk (F.held files.new)) }
     ensures read_fault { status_of_disproved result ≡ status.ReadFault
         → RoseAmong F.read_faults (names_read (files_of names.entry)) files.old files.new }
+    ensures read_fault_at { status_of_disproved result ≡ status.ReadFault
+        → FaultAt F.read_faults (input_then names.entry.input.now names.entry.proof.now)
+        (F.held files.old) (F.held files.new) files.old files.new }
     ensures write_fault { status_of_disproved result ≢ status.WriteFault }
     ensures held { F.held files.new ≡ F.held files.old }
 {
-    disprove_shared(alloc, files, names, binary, Part::whole())
+    disprove_shared(alloc, files, names, binary, true, Part::whole())
 }

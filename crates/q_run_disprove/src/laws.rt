@@ -6,7 +6,8 @@ ghost use Rattle.q_shares.specs.Shares.{Share, first_dealt};
 ghost use Rattle.q_command.specs.Parts.{share_of};
 ghost use Rattle.q_command.specs.declared.outcome.Outcome.TheVariants as shared;
 ghost use Rattle.q_command.specs.declared.part.Part.{Part as AnyPart};
-ghost use Rattle.q_run_disprove.specs.Disproofs.{DisproveFiles, Says};
+ghost use Rattle.q_run_disprove.specs.Disproofs.{DisproveFiles, IsRefutation, OfFiles, Says};
+ghost use Rattle.q_run_disprove.specs.HintedDisproofs.{TellsFiles};
 ghost use Rattle.q_run_disprove.specs.SharedDisproofs.{AllPartsVerified, PartSays};
 ghost use Rattle.q_run_disprove.specs.declared.disproved.Disproved.TheVariants as outcome;
 
@@ -30,4 +31,12 @@ pub fn least_refusals_of_parts_are_those_of_disprove()
         PartSays (share_of p) (shared.RefusedLine own other) n binary disk → line ≤ own }
     ensures ends { (p : AnyPart) → (n : DisproveFiles) → (binary : Bool) → (disk : Disk) →
         Says outcome.RefusedEnd n binary disk → PartSays (share_of p) (shared.RefusedEnd 11) n binary disk }
+{}
+
+/// A log with hints that `disprove` accepts refutes without its hints too: so each part says `verified`, which looks at none.
+pub fn hinted_disproofs_are_disproofs()
+    ensures steps { (m : ℕ) → (n : DisproveFiles) → (binary : Bool) → (disk : Disk) → TellsFiles (outcome.False m) n binary disk →
+        OfFiles n binary disk IsRefutation }
+    ensures parts { (p : AnyPart) → (m : ℕ) → (n : DisproveFiles) → (binary : Bool) → (disk : Disk) →
+        TellsFiles (outcome.False m) n binary disk → (k : ℕ) × PartSays (share_of p) (shared.Verified k) n binary disk }
 {}

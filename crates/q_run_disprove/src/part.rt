@@ -1,6 +1,8 @@
 // A part of `disprove`: all steps are made up to the empty clause, and those of the part's own blocks are judged.
 ghost use Rattle.std.specs.Prelude.{◌≡◌, ◌≢◌, IfSome};
 ghost use Rattle.q_io.specs.Files.{RoseAmong};
+ghost use Rattle.q_command.specs.Checks.{input_then};
+ghost use Rattle.q_command.specs.FirstFaults.{FaultAt};
 ghost use Rattle.q_command.specs.Devices.{devices};
 ghost use Rattle.q_command.specs.Parts.{share_of};
 ghost use Rattle.q_command.specs.Statuses.{status_of};
@@ -34,7 +36,7 @@ fn told_by_part(outcome: Disproved) -> Outcome
     }
 }
 
-/// What a part of `disprove` says over the files of these names.
+/// What a part of `disprove` says over the files of these names. It looks at no hints.
 pub fn disprove_part<F: Files>(
     alloc: Global,
     files: &mut F,
@@ -47,10 +49,13 @@ pub fn disprove_part<F: Files>(
         (F.held files.new)) }
     ensures read_fault { status_of result ≡ status.ReadFault
         → RoseAmong F.read_faults (names_read (files_of names.entry)) files.old files.new }
+    ensures read_fault_at { status_of result ≡ status.ReadFault
+        → FaultAt F.read_faults (input_then names.entry.input.now names.entry.proof.now)
+        (F.held files.old) (F.held files.new) files.old files.new }
     ensures write_fault { status_of result ≢ status.WriteFault }
     ensures held { F.held files.new ≡ F.held files.old }
 {
-    told_by_part(disprove_shared(alloc, files, names, binary, part))
+    told_by_part(disprove_shared(alloc, files, names, binary, false, part))
 }
 
 /// Does a part of `disprove` over the files of these names, and puts its line. Where `binary` is set, what can be either is a binary proof.

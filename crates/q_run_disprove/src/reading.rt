@@ -1,56 +1,73 @@
 // The proof is read once, forward, and no further than to the empty clause: each step is made as soon as it is read.
-ghost use Rattle.std.specs.Prelude.{◌≡◌, ◌≤◌, ◌<◌, ◌+◌, ◌-◌, ◌^◌, true, List, ℕ, length, take, drop, IfOk, IfErr, OnOk, IfSome, [], ◌++◌};
+ghost use Rattle.std.specs.Prelude.{◌≡◌, ◌≤◌, ◌<◌, ◌+◌, ◌^◌, true, false, IsTrue, List, ℕ, length, take, drop, IfOk, IfErr, OnOk, IfSome, [], ◌++◌};
 ghost use Rattle.q_io.specs.Files.{RoseFor, bytes_at};
 ghost use Rattle.q_command.specs.Reading.{OnlyReadsFiles};
 ghost use Rattle.q_command.specs.Parts.{IsWhole, share_of};
 ghost use Rattle.q_binary.specs.Forms.{left_of};
-ghost use Rattle.q_run_disprove.specs.Readings.{Advances, Concludes, HasTaken, IsOpen, IsReady, IsStarted, IsUnderWay, Tells, TellsAtOnce, log_refused};
+ghost use Rattle.q_refutation.specs.Refutations.{IsLost};
+ghost use Rattle.q_run_disprove.specs.Judges.{IsJudging, steps_in};
+ghost use Rattle.q_run_disprove.specs.JudgedReadings.{Advances, Concludes, HasTaken, IsOpen, IsStarted, Tells};
+ghost use Rattle.q_run_disprove.specs.Readings.{IsReady, TellsAtOnce, log_refused};
 
 use crate::disproved::Disproved;
 use crate::form::Form;
+use crate::judge::Judge;
 use crate::refuter::Refuter;
 use crate::verdict::Verdict;
 use q_binary::ProofReader;
 use q_command::Part;
+use q_hinted::Entry;
 use q_io::{DeviceError, Files};
 use q_log::LogError;
-use q_logic::{Formula, Limits, Step};
+use q_logic::{Formula, Limits};
 use std::alloc::Global;
 
-/// The reader of a proof, and the formula behind the steps so far.
+/// The reader of a proof, and who judges its steps.
 #[derive(Drop)]
 pub(crate) struct Reading {
     reader: ProofReader,
-    refuter: Refuter,
+    judge: Judge,
 }
 
-fn log_refusal(error: LogError) -> Verdict
-    ensures is { result.outcome ≡ log_refused error }
-    ensures ready { IsReady result }
-    ensures fault { result.outcome ≡ Disproved.ReadFault → ⊥ }
+fn log_refusal(error: LogError) -> Disproved
+    ensures is { result ≡ log_refused error }
+    ensures fault { result ≡ Disproved.ReadFault → ⊥ }
 {
     match error {
-        LogError::BadLine { line } => Verdict::of(Disproved::RefusedLine { line, cause: 1 }),
-        LogError::Limit { line } => Verdict::of(Disproved::RefusedLine { line, cause: 8 }),
-        LogError::NoMemory => Verdict::of(Disproved::NoMemory),
+        LogError::BadLine { line } => Disproved::RefusedLine { line, cause: 1 },
+        LogError::Limit { line } => Disproved::RefusedLine { line, cause: 8 },
+        LogError::NoMemory => Disproved::NoMemory,
     }
 }
 
+// Whether the empty clause is in the formula.
+fn is_lost(formula: &Formula) -> bool
+    ensures yes { IsTrue result → IsLost formula.now }
+    ensures no { result ≡ false → ¬ IsLost formula.now }
+{
+    for at in 0..formula.clauses() {
+        if formula.clause(at).is_empty() {
+            return true;
+        }
+    }
+    false
+}
+
 // What there is to say by the end of the proof, which may make a step whole.
-fn conclude(refuter: &mut Refuter, end: Result<Option<(u64, Step)>, LogError>) -> Verdict
-    requires under_way { IsUnderWay refuter.old }
-    requires few { refuter.old.steps < 2 ^ 64 - 1 }
-    ensures concludes { Concludes end refuter.old result }
+fn conclude(judge: &mut Judge, end: Result<Option<Entry>, LogError>) -> Verdict
+    requires judging { IsJudging judge.old }
+    requires few { steps_in judge.old < 2 ^ 61 }
+    ensures concludes { Concludes end judge.old result }
     ensures ready { IsReady result }
     ensures fault { result.outcome ≡ Disproved.ReadFault → ⊥ }
 {
     match end {
-        Ok(None) => Verdict::of(Disproved::RefusedEnd),
-        Ok(Some((line, step))) => match refuter.take(line, &step) {
+        Ok(None) => judge.stop(Disproved::RefusedEnd),
+        Ok(Some((line, step, proof))) => match judge.take(line, &step, &proof) {
             Ok(()) => Verdict::of(Disproved::RefusedEnd),
             Err(verdict) => verdict,
         },
-        Err(error) => log_refusal(error),
+        Err(error) => judge.stop(log_refusal(error)),
     }
 }
 
@@ -62,7 +79,8 @@ impl Reading {
         form: Form,
         part: Part,
     ) -> Result<Reading, Verdict>
-        requires { form.keeps ≡ true → IsWhole (share_of part) }
+        requires whole { form.keeps ≡ true → IsWhole (share_of part) }
+        requires apart { form.hints ≡ true → form.keeps ≡ false }
         ensures started { IfOk result (IsStarted form part formula) }
         ensures lost { IfErr result (TellsAtOnce form.keeps formula) }
         ensures ready { IfErr result IsReady }
@@ -71,8 +89,22 @@ impl Reading {
         let Ok(reader) = ProofReader::new(alloc, Limits::standard().bytes, form.binary) else {
             return Err(Verdict::of(Disproved::NoMemory));
         };
+        if form.hints {
+            if is_lost(&formula) {
+                return Err(Verdict::of(Disproved::False { steps: 0 }));
+            }
+            let judge = Judge::Open {
+                alloc,
+                formula,
+                part,
+            };
+            return Ok(Reading { reader, judge });
+        }
         match Refuter::start(alloc, formula, form.keeps, part) {
-            Ok(refuter) => Ok(Reading { reader, refuter }),
+            Ok(refuter) => Ok(Reading {
+                reader,
+                judge: Judge::Plain { refuter },
+            }),
             Err(verdict) => Err(verdict),
         }
     }
@@ -91,14 +123,14 @@ impl Reading {
     {
         match self.reader.next(piece) {
             Ok((count, None)) => Ok(count),
-            Ok((count, Some((line, step)))) => match self.refuter.take(line, &step) {
+            Ok((count, Some((line, step, proof)))) => match self.judge.take(line, &step, &proof) {
                 Ok(()) => {
-                    self.reader.keep(step);
+                    self.reader.keep(step, proof);
                     Ok(count)
                 }
                 Err(verdict) => Err(verdict),
             },
-            Err(error) => Err(log_refusal(error)),
+            Err(error) => Err(self.judge.stop(log_refusal(error))),
         }
     }
 
@@ -161,11 +193,8 @@ impl Reading {
         ensures ready { IsReady result }
         ensures fault { result.outcome ≡ Disproved.ReadFault → ⊥ }
     {
-        let Reading {
-            reader,
-            mut refuter,
-        } = self;
-        conclude(&mut refuter, reader.finish())
+        let Reading { reader, mut judge } = self;
+        conclude(&mut judge, reader.finish())
     }
 }
 

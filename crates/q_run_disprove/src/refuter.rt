@@ -27,7 +27,7 @@ pub(crate) struct Refuter {
     notes: Notes,
 }
 
-fn step_refusal(line: u64, error: CheckError) -> Disproved
+pub(crate) fn step_refusal(line: u64, error: CheckError) -> Disproved
     ensures { result ≡ step_refused line error }
 {
     match error {
@@ -119,6 +119,28 @@ impl Refuter {
             steps: 0,
             own: 0,
             notes,
+        })
+    }
+
+    /// Begins with the formula, unless the empty clause is in it. Steps of the part are judged, and no notes are kept.
+    pub fn open(alloc: Global, formula: &Formula, part: Part) -> Result<Refuter, Verdict>
+        ensures begun { IfOk result (IsBegun false part formula.now) }
+        ensures lost { IfErr result (TellsAtOnce false formula.now) }
+        ensures ready { IfErr result IsReady }
+        ensures fault { IfErr result (λ v. v.outcome ≡ Disproved.ReadFault → ⊥) }
+    {
+        let Ok(checker) = BoxedChecker::start(alloc, formula) else {
+            return Err(Verdict::of(Disproved::NoMemory));
+        };
+        if checker.has_empty() {
+            return Err(Verdict::of(Disproved::False { steps: 0 }));
+        }
+        Ok(Refuter {
+            checker,
+            part,
+            steps: 0,
+            own: 0,
+            notes: Notes::Unkept,
         })
     }
 

@@ -15,8 +15,9 @@ use Rattle.q_derive.specs.Traces.{IsTermTrace, IsClauseTrace}
 use Rattle.q_resolve.specs.Judged.{entries_of, IsMadeFor, IsFirstFault, IsCertified, IsRefuted}
 use Rattle.q_resolve.specs.declared.leaves.Owner.TheVariants as owner
 use Rattle.q_resolve.specs.declared.judged.Judged.{Judged}
-use Rattle.q_command.specs.Checks.{IsFileOf, IsNoFormula, Exactly}
+use Rattle.q_command.specs.Checks.{IsFileOf, IsNoFormula, Exactly, input_then}
 use Rattle.q_command.specs.Texts.{HoldsCircuits, MayHoldCircuits}
+use Rattle.q_command.specs.FirstFaults.{untold}
 use Rattle.q_command.specs.Told.{Told, OrNoMemory}
 use Rattle.q_command.specs.declared.input.InputError.{InputError}
 use Rattle.q_command.specs.declared.input.InputError.TheVariants as unread
@@ -247,4 +248,6 @@ told n = record {
   answers = λ disk given. (AreTrue n disk → OrNoMemory given status.True) × (AreFalse n disk → OrNoMemory given status.False) × (AreUnknown n disk → OrNoMemory given status.Unknown);
   reads = names_read n;
   writes = names_written n;
+  reads_at = input_then n.input n.trace;
+  writes_at = untold (names_written n);
 }

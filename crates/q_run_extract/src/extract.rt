@@ -2,6 +2,8 @@
 //! decides. CERT is created once all refusals are past.
 ghost use Rattle.std.specs.Prelude.{◌≡◌, ◌≢◌, IfOk, IfSome};
 ghost use Rattle.q_io.specs.Files.{RoseAmong, RoseFor};
+ghost use Rattle.q_command.specs.Checks.{input_then};
+ghost use Rattle.q_command.specs.FirstFaults.{FaultAt};
 ghost use Rattle.q_command.specs.declared.status.Status.TheVariants as status;
 ghost use Rattle.q_run_extract.specs.ExtractedLines.{status_of_extracted};
 ghost use Rattle.q_run_extract.specs.Extracts.{Extracts, IsJudged, Puts, Settles, claim_of, failed_write as write_failed, files_of, names_read, names_written, refused_input as input_refused, refused_trace as trace_refused, said, written_as};
@@ -132,6 +134,9 @@ pub fn extract_files<F: Files>(alloc: Global, files: &mut F, names: ExtractNames
         Extracts result (files_of names.entry) disk (F.held files.new)) }
     ensures read_fault { status_of_extracted result ≡ status.ReadFault
         → RoseAmong F.read_faults (names_read (files_of names.entry)) files.old files.new }
+    ensures read_fault_at { status_of_extracted result ≡ status.ReadFault
+        → FaultAt F.read_faults (input_then names.entry.input.now names.entry.trace.now)
+        (F.held files.old) (F.held files.new) files.old files.new }
     ensures write_fault { status_of_extracted result ≡ status.WriteFault
         → RoseAmong F.write_faults (names_written (files_of names.entry)) files.old files.new }
 {

@@ -17,7 +17,7 @@ use Rattle.q_encode.specs.Sides.{turned}
 use Rattle.q_encode.specs.Sums.{IsSmall}
 use Rattle.q_encode.specs.Encoded.{IsMiter}
 use Rattle.q_encode.proofs.GivenCircuits.{given-decided, miter-within}
-use Rattle.q_command.specs.Checks.{IsFileOf}
+use Rattle.q_command.specs.Checks.{IsFileOf, IsFormulaFile}
 use Rattle.q_command.specs.Inputs.{IsRefused as IsInputRefused}
 use Rattle.q_command.specs.Texts.{IsNoText}
 use Rattle.q_command.specs.declared.input.InputError.{InputError}
@@ -27,7 +27,7 @@ use Rattle.q_command.specs.declared.circuits.CircuitsError.TheVariants as text
 use Rattle.q_command.specs.declared.status.Status.TheVariants as status
 use Rattle.q_command.proofs.FileFormulas.{file-formula}
 use Rattle.q_run_miter.specs.MiteredLines.{status_of_mitered}
-use Rattle.q_run_miter.specs.Mitering.{MiterFiles, IsFormulaFile, OfFiles, AreMade, IsDecided, CircuitsFail, IsPart, Puts, Miters, refused_input, refused_text, refused_circuits, failed_write}
+use Rattle.q_run_miter.specs.Mitering.{MiterFiles, OfFiles, AreMade, IsDecided, CircuitsFail, IsPart, Puts, Miters, refused_input, refused_text, refused_circuits, failed_write}
 use Rattle.q_run_miter.specs.declared.mitered.Mitered.{Mitered}
 use Rattle.q_run_miter.specs.declared.mitered.Mitered.TheVariants.{Written, RefusedInput, RefusedText, RefusedCircuits, TooLarge, ReadFault, WriteFault, NoMemory}
 

@@ -14,7 +14,7 @@ use Rattle.q_encode.specs.declared.side.Side.{Side}
 use Rattle.q_encode.specs.Sides.{turned}
 use Rattle.q_encode.specs.Sums.{IsSmall, AreIn, sums_of}
 use Rattle.q_cnf.specs.Cnf.{cnf_text}
-use Rattle.q_command.specs.Checks.{IsFileOf, IsNoFormula, MayCome, Exactly}
+use Rattle.q_command.specs.Checks.{IsFileOf, IsFormulaFile, IsNoFormula, MayCome, Exactly}
 use Rattle.q_command.specs.Sinks.{SinkView, IsDue}
 use Rattle.q_command.specs.declared.status.Status.{Status}
 use Rattle.q_command.specs.declared.status.Status.TheVariants as status
@@ -23,7 +23,7 @@ use Rattle.q_command.specs.declared.unfit.Unfit.TheVariants as unfit
 use Rattle.q_command.proofs.CheckStatus.{one_formula, no_offence}
 use Rattle.q_command.proofs.ToldLaws.{ToldLaws, exact}
 use Rattle.q_run_miter.specs.MiteredLines.{status_of_mitered}
-use Rattle.q_run_miter.specs.Mitering.{MiterFiles, OfFiles, IsFormulaFile, AreFitting, AreTooLarge, AreNoCircuits, IsUnfit, IsWhole, IsPart, IsUntouched, Miters, MitersExactly, error_of, told}
+use Rattle.q_run_miter.specs.Mitering.{MiterFiles, OfFiles, AreFitting, AreTooLarge, AreNoCircuits, IsUnfit, IsWhole, IsPart, IsUntouched, Miters, MitersExactly, error_of, told}
 use Rattle.q_run_miter.specs.declared.mitered.Mitered.{Mitered}
 use Rattle.q_run_miter.specs.declared.mitered.Mitered.TheVariants.{Written, RefusedInput, RefusedText, RefusedCircuits, TooLarge, ReadFault, WriteFault, NoMemory}
 use Rattle.q_run_miter.proofs.GateCounts.{one-count}

@@ -16,7 +16,8 @@ use Rattle.q_encode.specs.declared.side.Side.{Side}
 use Rattle.q_encode.specs.Sides.{turned, AreFunctionsOf}
 use Rattle.q_encode.specs.Sums.{IsSmall}
 use Rattle.q_encode.specs.Encoded.{IsMiter}
-use Rattle.q_command.specs.Checks.{IsFileOf, IsNoFormula, Exactly}
+use Rattle.q_command.specs.Checks.{IsFileOf, IsFormulaFile, IsNoFormula, Exactly, input_then}
+use Rattle.q_command.specs.FirstFaults.{untold}
 use Rattle.q_command.specs.Told.{Told, OrNoMemory}
 use Rattle.q_command.specs.declared.input.InputError.{InputError}
 use Rattle.q_command.specs.declared.input.InputError.TheVariants as input
@@ -110,9 +111,6 @@ pub record OfFiles (n : MiterFiles) (disk : Disk) (P : PrenexFormula → Certifi
   pub circuits : AreCircuits (bytes_at disk n.cert) given
   pub holds : P formula given
 
-abbrev pub IsFormulaFile : List ℕ → Type 0
-IsFormulaFile bytes = (F : PrenexFormula) × IsFileOf bytes F
-
 -- the bytes are the canonical text of the clauses, and a formula file: its formula has these clauses and existentials alone, and is
 -- false exactly where the circuits are functions of their side
 pub record IsDecided (side : Side) (F : PrenexFormula) (c : CertificateView) (X : Matrix) : Type 0 where
@@ -190,4 +188,6 @@ told n side = record {
   answers = λ disk given. OfFiles n disk (AreFitting side) → OrNoMemory given status.Done;
   reads = names_read n;
   writes = names_written n;
+  reads_at = input_then n.input n.cert;
+  writes_at = untold (names_written n);
 }

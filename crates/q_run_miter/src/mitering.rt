@@ -1,6 +1,8 @@
 //! IN is read, then CERT; then the circuits are tested, then their clauses are made, and at last OUT is written.
 ghost use Rattle.std.specs.Prelude.{◌≡◌, IfOk, IfErr, IfSome};
 ghost use Rattle.q_io.specs.Files.{RoseAmong, RoseFor};
+ghost use Rattle.q_command.specs.Checks.{input_then};
+ghost use Rattle.q_command.specs.FirstFaults.{FaultAt};
 ghost use Rattle.q_command.specs.declared.status.Status.TheVariants as status;
 ghost use Rattle.q_run_miter.specs.MiteredLines.{status_of_mitered};
 ghost use Rattle.q_run_miter.specs.Mitering.{AreMade, CircuitsFail, Miters, Puts, failed_write as write_failed, files_of, refused_circuits as circuits_refused, refused_input as input_refused, refused_text as text_refused, names_read, names_written};
@@ -114,6 +116,9 @@ pub fn miter_files<F: Files>(alloc: Global, files: &mut F, names: MiterNames, si
         Miters result side (files_of names.entry) disk (F.held files.new)) }
     ensures read_fault { status_of_mitered result ≡ status.ReadFault
         → RoseAmong F.read_faults (names_read (files_of names.entry)) files.old files.new }
+    ensures read_fault_at { status_of_mitered result ≡ status.ReadFault
+        → FaultAt F.read_faults (input_then names.entry.input.now names.entry.cert.now)
+        (F.held files.old) (F.held files.new) files.old files.new }
     ensures write_fault { status_of_mitered result ≡ status.WriteFault
         → RoseAmong F.write_faults (names_written (files_of names.entry)) files.old files.new }
 {

@@ -19,7 +19,7 @@ use Rattle.q_command.specs.declared.outcome.Outcome.{Outcome}
 use Rattle.q_command.specs.declared.outcome.Outcome.TheVariants as outcome
 use Rattle.q_command.specs.declared.status.Status.TheVariants as status
 use Rattle.q_command.proofs.OutcomeStatus.{check-read}
-use Rattle.q_run_refute.specs.Refutes.{error_of, RefuteFiles, OfRun, Brings, AreRefused, AreCarried, CircuitsFail, FaultsReading, IsOfCircuits, IsPart, Puts, Refutes, not_reversed}
+use Rattle.q_run_refute.specs.Refutes.{error_of, RefuteFiles, OfRun, Brings, AreRefused, AreCarried, CircuitsFail, FaultsReading, IsOfCircuits, IsPart, IsPlainRun, Puts, Refutes, not_reversed}
 use Rattle.q_run_refute.specs.Reversing.{IsUnreversed}
 use Rattle.q_run_refute.specs.RefutedLines.{status_of_refuted}
 use Rattle.q_run_refute.specs.declared.refuted.Refuted.{Refuted}
@@ -74,13 +74,16 @@ module _ (keep : Keep) (steps : keep.steps ≡ true) (n : RefuteFiles) (before :
       holds = h;
     }
 
+    -- steps with reversals have no extended drop
+    pub plain-run : IsPlainRun n before
+    plain-run = of_run (reversals-none_extended c.from (steps_of (kept c)) rs reversals)
+
     pub circuits-refutes : (r : Refuted) → IsOfCircuits r → CircuitsFail r c.to (bytes_at before n.herbrand) →
         after ≡ Some before → Refutes r n before after
     circuits-refutes (Written g) i h same = elim h [ ]
     circuits-refutes (Unverified o) i h same = elim h [ ]
     circuits-refutes (Extended line) i h same = elim h [ ]
-    circuits-refutes (RefusedText k z) i h same =
-        (of_run (reversals-none_extended c.from (steps_of (kept c)) rs reversals), h, same)
+    circuits-refutes (RefusedText k z) i h same = (plain-run, h, same)
     circuits-refutes (RefusedCircuits w) i (given, a, h) same = (refused (error_of w) given a h, same)
     circuits-refutes TrueOutput i (given, a, h) same = (refused refusal.TrueOutput given a h, same)
     circuits-refutes ReadFault i h same = same
@@ -157,6 +160,10 @@ pub circuits-reading : {A B C D : Type 0} (r : Refuted) → IsOfCircuits r → (
 circuits-reading r h k (inl e) = inr (inr (inr (k e)))
 circuits-reading r h k (inr e) = absurd (subst IsOfCircuits e h)
 
+pub unverified-reading : (o : Outcome) → FaultsReading (Unverified o) → o ≡ outcome.ReadFault
+unverified-reading o (inl e) = cc
+unverified-reading o (inr e) = cc
+
 -- the same over what files tell, if they tell it
 module _ (keep : Keep) (steps : keep.steps ≡ true) (n : RefuteFiles) (c : Checked) (run : AreRun keep.steps c.from c.to c.taken.items) where
   abbrev Passed : Disk → Type 0
@@ -168,6 +175,10 @@ module _ (keep : Keep) (steps : keep.steps ≡ true) (n : RefuteFiles) (c : Chec
   unreversed-joined (Some d) after e u same p = unreversed-refutes keep steps n d after c p run e u same
 
   module _ (rs : List Reversal) (reversals : Reversals c.from (steps_of (kept c)) rs) where
+    pub plain-joined : (held : Option Disk) → IfSome held Passed → IfSome held (λ d. IsPlainRun n d)
+    plain-joined None p = tt
+    plain-joined (Some d) p = plain-run keep steps n d (Some d) c p run rs reversals
+
     pub circuits-joined : (held after : Option Disk) (r : Refuted) → IsOfCircuits r → after ≡ held →
         IfSome held Passed → IfSome held (λ d. CircuitsFail r c.to (bytes_at d n.herbrand)) →
         IfSome held (λ d. Refutes r n d after)

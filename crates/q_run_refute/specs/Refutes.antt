@@ -13,8 +13,10 @@ use Rattle.q_herbrand.specs.Refuted.{IsRefuted}
 use Rattle.q_herbrand.specs.Refusals.{IsRefused, IsAccepted}
 use Rattle.q_herbrand.specs.declared.error.HerbrandError.{HerbrandError}
 use Rattle.q_herbrand.specs.declared.error.HerbrandError.TheVariants as refusal
-use Rattle.q_command.specs.Checks.{Checks, IsFileOf, IsNoFormula, IsNoRun, IsRunLog, IsUnverified, Exactly, MayCome}
+use Rattle.q_command.specs.Checks.{Checks, IsFileOf, IsNoFormula, IsNoRun, IsRunLog, IsUnverified, Exactly, MayCome, turns_and}
+use Rattle.q_command.specs.FirstFaults.{Turn, untold, where_so}
 use Rattle.q_command.specs.Logs.{Entry, steps_of}
+use Rattle.q_command.specs.Names.{ThreeNames, three}
 use Rattle.q_command.specs.Texts.{HoldsCircuits, MayHoldCircuits}
 use Rattle.q_command.specs.Told.{Told, OrNoMemory}
 use Rattle.q_command.specs.declared.checking.Checked.{Checked}
@@ -71,6 +73,16 @@ pub record OfRun (n : RefuteFiles) (disk : Disk) (P : PrenexFormula → List Ent
 -- the log is verified, and none of its steps is an extended drop
 abbrev pub IsPlainRun : RefuteFiles → Disk → Type 0
 IsPlainRun n disk = OfRun n disk (λ F es G. NoneExtended F (steps_of es))
+
+-- HERBRAND is read behind the three files of the log, where the log is such
+abbrev pub three_read : RefuteFiles → ThreeNames
+three_read n = three n.input n.output n.log
+
+abbrev pub herbrand_turn : RefuteFiles → Turn
+herbrand_turn n = where_so (IsPlainRun n) n.herbrand
+
+abbrev pub turns_read : RefuteFiles → List Turn
+turns_read n = turns_and (three_read n) (herbrand_turn n)
 
 -- the log is verified, and its first extended drop begins on this line
 abbrev pub IsExtendedAt : ℕ → RefuteFiles → Disk → Type 0
@@ -267,4 +279,6 @@ told n = record {
       (AreFitting n disk → OrNoMemory given status.Done) × (HasExtended n disk → OrNoMemory given status.Extended);
   reads = names_read n;
   writes = names_written n;
+  reads_at = turns_read n;
+  writes_at = untold (names_written n);
 }

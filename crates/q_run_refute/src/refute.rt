@@ -2,11 +2,12 @@
 //! The first refusal, fault or want of memory decides. CERT is created once all refusals are past.
 ghost use Rattle.std.specs.Prelude.{◌≡◌, IfOk, IfErr, IfSome, IsErrOf, true};
 ghost use Rattle.q_io.specs.Files.{RoseAmong, RoseFor, bytes_at};
+ghost use Rattle.q_command.specs.FirstFaults.{FaultAt};
 ghost use Rattle.q_command.specs.Reading.{OnlyReadsFiles};
 ghost use Rattle.q_logic.specs.Reversals.{Reversals as ReversalsOf};
 ghost use Rattle.q_command.specs.Logs.{steps_of};
 ghost use Rattle.q_command.specs.Taken.{AreRun, entries_of};
-ghost use Rattle.q_run_refute.specs.Refutes.{AreCarried, CircuitsFail, FaultsReading, IsOfCircuits, Puts, Refutes, failed_write as write_failed, files_of, no_circuits as circuits_missing, refused_circuits as circuits_refused, not_reversed as reversed_not, names_read, names_written};
+ghost use Rattle.q_run_refute.specs.Refutes.{AreCarried, CircuitsFail, FaultsReading, IsOfCircuits, Puts, Refutes, failed_write as write_failed, files_of, no_circuits as circuits_missing, refused_circuits as circuits_refused, not_reversed as reversed_not, names_read, names_written, turns_read};
 ghost use Rattle.q_run_refute.specs.Reversing.{IsUnreversed};
 ghost use Rattle.q_run_refute.specs.RefutedLines.{status_of_refuted};
 
@@ -140,6 +141,9 @@ fn refute_in_order<F: Files>(alloc: Global, files: &mut F, names: RefuteNames) -
         Refutes result (files_of names.entry) disk (F.held files.new)) }
     ensures read_fault { FaultsReading result
         → RoseAmong F.read_faults (names_read (files_of names.entry)) files.old files.new }
+    ensures read_fault_at { FaultsReading result
+        → FaultAt F.read_faults (turns_read (files_of names.entry))
+        (F.held files.old) (F.held files.new) files.old files.new }
     ensures write_fault { result ≡ Refuted.WriteFault
         → RoseFor F.write_faults names.entry.cert.now files.old files.new }
 {
@@ -172,6 +176,9 @@ pub fn refute_files<F: Files>(alloc: Global, files: &mut F, names: RefuteNames) 
         Refutes result (files_of names.entry) disk (F.held files.new)) }
     ensures read_fault { status_of_refuted result ≡ Status.ReadFault
         → RoseAmong F.read_faults (names_read (files_of names.entry)) files.old files.new }
+    ensures read_fault_at { status_of_refuted result ≡ Status.ReadFault
+        → FaultAt F.read_faults (turns_read (files_of names.entry))
+        (F.held files.old) (F.held files.new) files.old files.new }
     ensures write_fault { status_of_refuted result ≡ Status.WriteFault
         → RoseAmong F.write_faults (names_written (files_of names.entry)) files.old files.new }
 {

@@ -18,8 +18,8 @@ use Rattle.q_command.specs.Checks.{IsFileOf}
 use Rattle.q_command.specs.Texts.{MayHoldCircuits}
 use Rattle.q_run_solve.specs.declared.solved.Solved.{Solved}
 use Rattle.q_run_solve.specs.declared.solved.Solved.TheVariants.{True, False, Unknown, RefusedInput, ReadFault, WriteFault, NoMemory}
-use Rattle.q_run_solve.specs.Reduces.{plain_options, IsSimplified, HoldsBoth, MayHoldBoth, out_name, log_name}
-use Rattle.q_run_solve.specs.Solves.{SolveFiles, IsReduced, AreCircuitsOf, HoldsAnswerFront, SameAt, IsLeft, Solves, Concludes}
+use Rattle.q_run_solve.specs.Reduces.{plain_options, IsSimplified, HoldsBoth, HoldsLog, MayHoldBoth, out_name, log_name}
+use Rattle.q_run_solve.specs.Solves.{SolveFiles, IsReduced, AreCircuitsOf, HoldsAnswerFront, SameAt, IsDone, IsLeft, IsLogged, Solves, Concludes}
 
 -- without a budget it ends settled
 ends-settled : (x : Ending) (F G : PrenexFormula) → EndsAs x plain_options F G → IsSettled plain_options.bounds G
@@ -27,6 +27,7 @@ ends-settled ending.Settled F G h = h.0
 ends-settled ending.True F G h = h.0
 ends-settled ending.False F G h = h.0
 ends-settled ending.Spent F G h = absurd h.1
+ends-settled ending.Stopped F G h = absurd h
 
 -- the bytes of a name that holds some
 pub held-bytes : (disk : Disk) (name text : List ℕ) → map.get disk name ≡ Some text → bytes_at disk name ≡ text
@@ -84,6 +85,10 @@ module _ (n : SolveFiles) (before : Disk) (F G : PrenexFormula) (m : Disk) (inpu
     others = λ q x y z. k q z ∙ r.others q x y z;
   }
 
+  -- the log is
+  pub logged-at : (after : Option Disk) → HoldsLog n.log (bytes_at m log_name) after → IsLogged n before after
+  logged-at after (d, t, e) = record { disk = d; told = t; from = F; to = G; is_input = input; log_is = run-at d e }
+
   -- a fault or want of memory while they are written
   pub left-part : (after : Option Disk) → MayHoldBoth n.output n.log (bytes_at m out_name) (bytes_at m log_name) before after → IsLeft n before after
   left-part after b = record {
@@ -123,6 +128,17 @@ module _ (n : SolveFiles) (before : Disk) (F G : PrenexFormula) (m : Disk) (inpu
       cert : (map.get w.disk n.cert ≡ map.get b.disk n.cert) ⊎ ((part : ℕ) × (bytes_at w.disk n.cert ≡ take part text)) → SameAt n.cert before w.disk ⊎ HoldsAnswerFront n.cert F w.disk
       cert (inl e) = inl (e ∙ cert-same mid b)
       cert (inr (part, e)) = inr (record { made = made; circuits = c; gates = gates; text = text; canonical = can; part = part; bytes = e })
+
+  -- CERT could not be written
+  pub both-stand : (budget : Option ℕ) (mid after : Option Disk) → (b : HoldsBoth n.output n.log (bytes_at m out_name) (bytes_at m log_name) before mid) → Concludes WriteFault n.cert budget F G b.disk after → IsDone n before after (λ K L d. Unit {0})
+  both-stand budget mid after b (made, c, (gates, text, can, w)) = record {
+    disk = w.disk;
+    told = w.told;
+    from = F;
+    to = G;
+    reduced = reduced-on b.disk w.disk w.others (reduced-at mid b);
+    holds = tt;
+  }
 
   -- the search and the circuits
   pub concluded : (due : Solved) (budget : Option ℕ) (mid after : Option Disk) → (b : HoldsBoth n.output n.log (bytes_at m out_name) (bytes_at m log_name) before mid) → Concludes due n.cert budget F G b.disk after → Solves due n budget before after

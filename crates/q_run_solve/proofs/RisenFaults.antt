@@ -1,19 +1,21 @@
 -- Faults that rose.
-use Rattle.std.proofs.Common.{◌≡◌, inl, inr, refl, sym, ◌∙◌, ℕ, List, [], ◌∷◌, Err}
+use Rattle.std.proofs.Common.{◌≡◌, inl, inr, refl, sym, ◌∙◌, ℕ, List, [], ◌∷◌, Option, Err, IfSome}
 use Rattle.std.specs.Prelude.{IsErrOf}
-use Rattle.q_io.specs.Files.{Later, RoseFor, RoseAmong}
+use Rattle.q_io.specs.Files.{Disk, Later, RoseFor, RoseAmong}
 use Rattle.q_io.specs.declared.error.DeviceError.{DeviceError}
 use Rattle.q_io.specs.declared.error.DeviceError.TheVariants as device
 use Rattle.q_io.proofs.FaultCounts.{rose_later}
+use Rattle.q_command.specs.FirstFaults.{FaultAt}
 use Rattle.q_command.specs.declared.status.Status.TheVariants as status
 use Rattle.q_run_solve.specs.declared.solved.Solved.{Solved}
 use Rattle.q_run_solve.specs.declared.solved.Solved.TheVariants as solved
 use Rattle.q_run_solve.specs.SolvedLines.{status_of_solved}
-use Rattle.q_run_solve.specs.Solves.{failed_write, refusal_of}
+use Rattle.q_run_solve.specs.Reduces.{HoldsLog, turns_of_both}
+use Rattle.q_run_solve.specs.Solves.{SolveFiles, IsLogged, failed_write, refusal_of, turns_written}
 use Rattle.q_command.specs.declared.input.InputError.{InputError}
 use Rattle.q_command.specs.declared.input.InputError.TheVariants as reading
 
-write-is : (o : Solved) → status_of_solved o ≡ status.WriteFault → o ≡ solved.WriteFault
+pub write-is : (o : Solved) → status_of_solved o ≡ status.WriteFault → o ≡ solved.WriteFault
 write-is (solved.True g) e = absurd (cc)
 write-is solved.False e = absurd (cc)
 write-is solved.Unknown e = absurd (cc)
@@ -52,14 +54,21 @@ refusal-reads o (reading.Refused k c) e h s = absurd (let z : solved.RefusedInpu
 refusal-reads o reading.Fault e h s = h refl
 refusal-reads o reading.NoMemory e h s = absurd (let z : solved.NoMemory ≡ solved.ReadFault = sym e ∙ read-is o s in cc)
 
--- LOG or OUT could not be written
-pub both-rose : {X : Type 0} (write : X → List ℕ → ℕ) (on ln cn : List ℕ) (before after : X) (o : Solved) (x : DeviceError) → o ≡ failed_write x → (IsErrOf {T = Unit {0}} {E = DeviceError} (Err x) device.Failed → RoseAmong write (on ∷ ln ∷ []) before after) → status_of_solved o ≡ status.WriteFault → RoseAmong write (on ∷ ln ∷ cn ∷ []) before after
-both-rose write on ln cn before after o x e h s = go (h (failed x (sym e ∙ write-is o s)))
-  where
-    failed : (x : DeviceError) → failed_write x ≡ solved.WriteFault → IsErrOf {T = Unit {0}} {E = DeviceError} (Err x) device.Failed
-    failed device.Failed e = refl
-    failed device.NoMemory e = absurd (cc)
+-- a file that could not be written failed
+pub failed-is : (o : Solved) (x : DeviceError) → o ≡ failed_write x → status_of_solved o ≡ status.WriteFault → IsErrOf {T = Unit {0}} {E = DeviceError} (Err x) device.Failed
+failed-is o device.Failed e s = refl
+failed-is o device.NoMemory e s = absurd (let z : solved.NoMemory ≡ solved.WriteFault = sym e ∙ write-is o s in cc)
 
+-- LOG or OUT could not be written
+pub both-at : {X : Type 0} (write : X → List ℕ → ℕ) (n : SolveFiles) (log_text : List ℕ) (held end : Option Disk) (before after : X) → (IfSome held (λ disk. HoldsLog n.log log_text end) → IfSome held (λ disk. IsLogged n disk end)) →
+    FaultAt write (turns_of_both n.output n.log log_text) held end before after → FaultAt write (turns_written n) held end before after
+both-at write n log_text held end before after k (inl r) = inl r
+both-at write n log_text held end before after k (inr (inl (h, r))) = inr (inl (k h, r))
+both-at write n log_text held end before after k (inr (inr z)) = absurd z
+
+pub both-rose : {X : Type 0} (write : X → List ℕ → ℕ) (on ln cn : List ℕ) (before after : X) (o : Solved) (x : DeviceError) → o ≡ failed_write x → (IsErrOf {T = Unit {0}} {E = DeviceError} (Err x) device.Failed → RoseAmong write (on ∷ ln ∷ []) before after) → status_of_solved o ≡ status.WriteFault → RoseAmong write (on ∷ ln ∷ cn ∷ []) before after
+both-rose write on ln cn before after o x e h s = go (h (failed-is o x e s))
+  where
     go : RoseAmong write (on ∷ ln ∷ []) before after → RoseAmong write (on ∷ ln ∷ cn ∷ []) before after
     go (inl a) = inl a
     go (inr b) = inr (inl b)

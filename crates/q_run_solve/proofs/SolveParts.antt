@@ -24,9 +24,9 @@ use Rattle.q_command.specs.Inputs.{IsRefused}
 use Rattle.q_io.specs.declared.error.DeviceError.{DeviceError}
 use Rattle.q_io.specs.declared.error.DeviceError.TheVariants as device
 use Rattle.q_run_solve.specs.declared.reducing.Reduced.{Reduced}
-use Rattle.q_run_solve.specs.Reduces.{plain_options, in_name, out_name, log_name, IsSimplified, SomeSimplified, IsReducedTo, HoldsBoth, MayHoldBoth}
-use Rattle.q_run_solve.specs.Solves.{SolveFiles, Solves, Concludes, IsLeft, refusal_of, failed_write}
-use Rattle.q_run_solve.proofs.KeptFiles.{held-bytes, concluded, left-part}
+use Rattle.q_run_solve.specs.Reduces.{plain_options, in_name, out_name, log_name, IsSimplified, SomeSimplified, IsReducedTo, HoldsBoth, HoldsLog, MayHoldBoth}
+use Rattle.q_run_solve.specs.Solves.{SolveFiles, Solves, Concludes, IsDone, IsLeft, IsLogged, refusal_of, failed_write}
+use Rattle.q_run_solve.proofs.KeptFiles.{held-bytes, both-stand, concluded, left-part, logged-at}
 
 in-out : in_name ≢ out_name
 in-out e = let h : 73 ≡ 79 = ap (λ (xs : List ℕ). get_or xs 0 0) e in omega (arith, h)
@@ -76,6 +76,17 @@ left-all n r due e budget h1 h2 oc lc t d b = IfSome_then h1 b (λ disk w f. sub
     go : (e : DeviceError) → (disk : Disk) → IsLeft n disk h2 → Solves (failed_write e) n budget disk h2
     go device.Failed disk w = w
     go device.NoMemory disk w = inr w
+
+pub logged-all : (n : SolveFiles) (r : Reduced) (h1 h2 : Option Disk) → n.output ≢ n.cert → n.log ≢ n.cert → IsReducedTo r.checked.from r →
+    IfSome h1 (λ disk. Dimacs standard (bytes_at disk n.input) r.checked.from) → IfSome h1 (λ disk. HoldsLog n.log (bytes_at r.memory log_name) h2) → IfSome h1 (λ disk. IsLogged n disk h2)
+logged-all n r h1 h2 oc lc t f b = if_some_2 h1 f b (λ disk x w. logged-at n disk r.checked.from r.checked.to r.memory x t.made oc lc h2 w)
+
+pub both-all : (n : SolveFiles) (r : Reduced) (due : Solved) (budget : Option ℕ) (h1 h2 h3 : Option Disk) → n.output ≢ n.cert → n.log ≢ n.cert → IsReducedTo r.checked.from r → due ≡ solved.WriteFault →
+    IfSome h1 (λ disk. Dimacs standard (bytes_at disk n.input) r.checked.from) → IfSome h1 (λ disk. HoldsBoth n.output n.log (bytes_at r.memory out_name) (bytes_at r.memory log_name) disk h2) →
+    IfSome h2 (λ disk. Concludes due n.cert budget r.checked.from r.checked.to disk h3) → IfSome h1 (λ disk. IsDone n disk h3 (λ F G d. Unit {0}))
+both-all n r due budget h1 h2 h3 oc lc t e f b k =
+    if_some_2 h1 f b (λ disk x w. both-stand n disk r.checked.from r.checked.to r.memory x t.made oc lc budget h2 h3 w
+    (subst (λ (s : Solved). Concludes s n.cert budget r.checked.from r.checked.to w.disk h3) e (at_some _ h2 k w.disk w.told)))
 
 pub settled-all : (n : SolveFiles) (F H : PrenexFormula) (due : Solved) (budget : Option ℕ) (h0 h1 h2 : Option Disk) → H ≡ F → h1 ≡ h0 → IfSome h0 (λ disk. Dimacs standard (bytes_at disk n.input) F) →
     IfSome h1 (λ disk. Dimacs standard (bytes_at disk n.input) H → Solves due n budget disk h2) → IfSome h0 (λ disk. Solves due n budget disk h2)

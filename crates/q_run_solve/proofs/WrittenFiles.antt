@@ -5,7 +5,7 @@ use Rattle.std.specs.FinMap as map
 use Rattle.std.proofs.lemmas.Option.{IfSome_then}
 use Rattle.q_io.specs.Files.{Disk, HoldsBytes, MayHoldFront, bytes_at}
 use Rattle.q_io.proofs.StoreContents.{at_some}
-use Rattle.q_run_solve.specs.Reduces.{HoldsBoth, MayHoldBoth}
+use Rattle.q_run_solve.specs.Reduces.{HoldsBoth, HoldsLog, MayHoldBoth}
 
 pub first-part : (on ln ot lt : List ℕ) (held after : Option Disk) → on ≢ ln → IfSome held (λ disk. MayHoldFront ln lt disk after) → IfSome held (λ disk. MayHoldBoth on ln ot lt disk after)
 first-part on ln ot lt held after n h = IfSome_then held h (λ before m. record {
@@ -46,3 +46,10 @@ both-whole on ln ot lt held mid after n h k = IfSome_then held h (λ before m. g
       out_is = t.bytes;
       others = λ q a b. t.others q a ∙ m.others q b;
     }
+
+-- the log stays where the output could not be written
+pub log-stands : (on ln ot lt : List ℕ) (held mid after : Option Disk) → on ≢ ln → IfSome held (λ disk. HoldsBytes ln lt disk mid) → IfSome mid (λ disk. MayHoldFront on ot disk after) → IfSome held (λ disk. HoldsLog ln lt after)
+log-stands on ln ot lt held mid after n h k = IfSome_then held h (λ before m. go before m (at_some _ mid k m.disk m.told))
+  where
+    go : (before : Disk) → (m : HoldsBytes ln lt before mid) → MayHoldFront on ot m.disk after → HoldsLog ln lt after
+    go before m t = (t.disk, t.told, t.others ln (λ e. n (sym e)) ∙ m.bytes)

@@ -1,5 +1,5 @@
 -- The work in memory: a formula is simplified, and its log is checked.
-use Rattle.std.specs.Prelude.{◌≡◌, ◌⊎◌, ◌↔◌, ℕ, List, true, codes, take, Option, Some, None}
+use Rattle.std.specs.Prelude.{◌≡◌, ◌⊎◌, ◌↔◌, ℕ, List, [], ◌∷◌, true, codes, take, Option, Some, None}
 use Rattle.std.specs.FinMap as map
 use Rattle.q_logic.specs.Prelude.{PrenexFormula, Holds}
 use Rattle.q_logic.specs.UsualBounds.{usual}
@@ -9,6 +9,7 @@ use Rattle.q_simplify.specs.declared.options.Options.{Options}
 use Rattle.q_simplify.specs.declared.report.Report.{Report}
 use Rattle.q_simplify.specs.Results.{IsReport, HoldsRun, OnlyThese}
 use Rattle.q_command.specs.Checks.{LeadsBack}
+use Rattle.q_command.specs.FirstFaults.{Turn, first_of}
 use Rattle.q_run_solve.specs.declared.reducing.Reduced.{Reduced}
 
 -- the rules may go as far as they do without options, and no budget of the measure is given
@@ -50,6 +51,15 @@ pub record HoldsBoth (output log out_text log_text : List ℕ) (before : Disk) (
   pub log_is : map.get disk log ≡ Some log_text
   pub out_is : map.get disk output ≡ Some out_text
   pub others : OnlyThese output log before disk
+
+-- the log is whole
+abbrev pub HoldsLog : List ℕ → List ℕ → Option Disk → Type 0
+HoldsLog log log_text after = (disk : Disk) × (after ≡ Some disk) × (map.get disk log ≡ Some log_text)
+
+-- the log is written first, and the output where the log is whole
+abbrev pub turns_of_both : List ℕ → List ℕ → List ℕ → List Turn
+turns_of_both output log log_text =
+    first_of log ∷ record { name = output; reached = λ before after. HoldsLog log log_text after } ∷ []
 
 -- a front of the log, or the whole log and a front of the output
 pub record MayHoldBoth (output log out_text log_text : List ℕ) (before : Disk) (after : Option Disk) : Type 0 where

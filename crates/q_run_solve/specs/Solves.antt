@@ -21,6 +21,7 @@ use Rattle.q_command.specs.declared.input.InputError.{InputError}
 use Rattle.q_command.specs.declared.input.InputError.TheVariants as reading
 use Rattle.q_command.specs.Checks.{IsFileOf, IsNoFormula, Exactly, MayCome}
 use Rattle.q_command.specs.Texts.{HoldsCircuits, MayHoldCircuits}
+use Rattle.q_command.specs.FirstFaults.{Turn, first_of, untold}
 use Rattle.q_command.specs.Told.{Told}
 use Rattle.q_run_solve.specs.declared.names.SolveNames.{SolveNames}
 use Rattle.q_run_solve.specs.declared.solved.Solved.{Solved}
@@ -109,6 +110,25 @@ pub record IsLeft (n : SolveFiles) (before : Disk) (after : Option Disk) : Type 
   pub out_is : SameAt n.output before disk ⊎ HoldsPart from n.output n.log disk
   pub cert_is : SameAt n.cert before disk ⊎ HoldsAnswerFront n.cert from disk
   pub others : OthersKept n before disk
+
+-- LOG is whole: it has the text of steps that lead from the formula of IN to some other
+pub record IsLogged (n : SolveFiles) (before : Disk) (after : Option Disk) : Type 0 where
+  pub disk : Disk
+  pub told : after ≡ Some disk
+  pub from : PrenexFormula
+  pub to : PrenexFormula
+  pub is_input : IsFileOf (bytes_at before n.input) from
+  pub log_is : HoldsRun from to n.log disk
+
+-- LOG is written first, OUT where LOG is whole, and CERT where both are
+abbrev pub output_turn : SolveFiles → Turn
+output_turn n = record { name = n.output; reached = IsLogged n }
+
+abbrev pub cert_turn : SolveFiles → Turn
+cert_turn n = record { name = n.cert; reached = λ before after. IsDone n before after (λ F G disk. Unit {0}) }
+
+abbrev pub turns_written : SolveFiles → List Turn
+turns_written n = first_of n.log ∷ output_turn n ∷ cert_turn n ∷ []
 
 -- the formula is true, false, or the budget is spent
 abbrev pub IsTrueAnswer : SolveFiles → Option ℕ → ℕ → PrenexFormula → PrenexFormula → Disk → Type 0
@@ -204,4 +224,6 @@ told n budget = record {
       (IsEnded given ⊎ (given ≡ status.NoMemory)) × (budget ≡ None → given ≢ status.Unknown);
   reads = names_read n;
   writes = names_written n;
+  reads_at = untold (names_read n);
+  writes_at = turns_written n;
 }

@@ -1,7 +1,8 @@
 //! LOG and OUT are written, in this order, as `simplify` leaves them.
 ghost use Rattle.std.specs.Prelude.{◌≡◌, ◌≢◌, [], ◌∷◌, OnOk, OnErr, IfSome, IsErrOf};
 ghost use Rattle.q_io.specs.Files.{Later, RoseAmong, bytes_at};
-ghost use Rattle.q_run_solve.specs.Reduces.{HoldsBoth, MayHoldBoth};
+ghost use Rattle.q_command.specs.FirstFaults.{FaultAt};
+ghost use Rattle.q_run_solve.specs.Reduces.{HoldsBoth, MayHoldBoth, turns_of_both};
 
 use q_io::{DeviceError, Files, SteadyFiles, write_whole};
 
@@ -32,6 +33,9 @@ pub fn write_both<F: Files>(
     ensures later { Later F.read_faults F.write_faults files.old files.new }
     ensures cause { IsErrOf result DeviceError.Failed
         → RoseAmong F.write_faults (output.now ∷ log.now ∷ []) files.old files.new }
+    ensures cause_at { IsErrOf result DeviceError.Failed
+        → FaultAt F.write_faults (turns_of_both output.now log.now log_text.now)
+        (F.held files.old) (F.held files.new) files.old files.new }
 {
     match write_whole(files, log, log_text) {
         Ok(()) => {}

@@ -3,10 +3,11 @@ ghost use Rattle.std.specs.Prelude.{◌≡◌, ◌≢◌, [], ◌∷◌, IfSome,
 ghost use Rattle.q_logic.specs.Prelude.{standard};
 ghost use Rattle.q_dimacs.specs.Dimacs.{Dimacs};
 ghost use Rattle.q_io.specs.Files.{RoseAmong, Later, bytes_at};
+ghost use Rattle.q_command.specs.FirstFaults.{FaultAt};
 ghost use Rattle.q_command.specs.declared.status.Status.TheVariants as status;
 ghost use Rattle.q_run_solve.specs.SolvedLines.{status_of_solved};
-ghost use Rattle.q_run_solve.specs.Reduces.{IsReducedTo, HoldsBoth, MayHoldBoth, out_name, log_name};
-ghost use Rattle.q_run_solve.specs.Solves.{Solves, files_of, refusal_of, names_read, names_written};
+ghost use Rattle.q_run_solve.specs.Reduces.{IsReducedTo, HoldsBoth, MayHoldBoth, out_name, log_name, turns_of_both};
+ghost use Rattle.q_run_solve.specs.Solves.{Solves, files_of, refusal_of, names_read, names_written, turns_written};
 
 use crate::concluding::{conclude, unwritten};
 use crate::leaving::{text_of, write_both};
@@ -45,6 +46,9 @@ pub fn solve_files<F: Files>(
         → RoseAmong F.read_faults (names_read (files_of names.entry)) files.old files.new }
     ensures write_fault { status_of_solved result ≡ status.WriteFault
         → RoseAmong F.write_faults (names_written (files_of names.entry)) files.old files.new }
+    ensures write_fault_at { status_of_solved result ≡ status.WriteFault
+        → FaultAt F.write_faults (turns_written (files_of names.entry)) (F.held files.old)
+        (F.held files.new) files.old files.new }
 {
     let formula = match read_input(alloc, files, names.input) {
         Ok(formula) => formula,
@@ -74,6 +78,11 @@ fn settle<F: Files>(
     ensures reading { status_of_solved result ≡ status.ReadFault → ⊥ }
     ensures cause { status_of_solved result ≡ status.WriteFault
         → RoseAmong F.write_faults (names_written (files_of names.entry)) files.old files.new }
+    ensures cause_at { status_of_solved result ≡ status.WriteFault
+        → IfSome (F.held files.old) (λ disk.
+        Dimacs standard (bytes_at disk names.entry.input.now) reduced.now.checked.from)
+        → FaultAt F.write_faults (turns_written (files_of names.entry)) (F.held files.old)
+        (F.held files.new) files.old files.new }
 {
     match leave(files, names, reduced) {
         Ok(()) => conclude(alloc, files, names.cert, &reduced.checked, budget),
@@ -95,6 +104,10 @@ fn leave<F: Files>(files: &mut F, names: SolveNames, reduced: &Reduced) -> Resul
         (F.held files.new))) }
     ensures cause { IsErrOf result DeviceError.Failed
         → RoseAmong F.write_faults (names.entry.output.now ∷ names.entry.log.now ∷ []) files.old
+        files.new }
+    ensures cause_at { IsErrOf result DeviceError.Failed
+        → FaultAt F.write_faults (turns_of_both names.entry.output.now names.entry.log.now
+        (bytes_at reduced.now.memory log_name)) (F.held files.old) (F.held files.new) files.old
         files.new }
     ensures later { Later F.read_faults F.write_faults files.old files.new }
 {

@@ -3,7 +3,7 @@ use Rattle.std.proofs.Common.{◌≡◌, ◌≢◌, sym, subst, refl, ℕ, Optio
 use Rattle.q_logic.specs.Prelude.{PrenexFormula, CertificateView}
 use Rattle.q_io.specs.Files.{Disk, bytes_at}
 use Rattle.q_aiger.specs.Circuits.{AreCircuits}
-use Rattle.q_command.specs.Checks.{IsFileOf}
+use Rattle.q_command.specs.Checks.{IsFileOf, IsFormulaFile}
 use Rattle.q_command.specs.Inputs.{IsRefused as IsInputRefused}
 use Rattle.q_command.specs.Texts.{IsNoText}
 use Rattle.q_command.specs.declared.input.InputError.{InputError}
@@ -15,7 +15,7 @@ use Rattle.q_validate.specs.declared.error.ValidateError.{ValidateError}
 use Rattle.q_validate.specs.declared.error.ValidateError.TheVariants as refusal
 use Rattle.q_validate.specs.Refusals.{IsRefused}
 use Rattle.q_run_validate.specs.ValidatedLines.{status_of_validated}
-use Rattle.q_run_validate.specs.Validates.{ValidateFiles, IsFormulaFile, Judges, Says, Validates, refused_input, refused_text, refused_circuits}
+use Rattle.q_run_validate.specs.Validates.{ValidateFiles, Judges, Says, Validates, refused_input, refused_text, refused_circuits}
 use Rattle.q_run_validate.specs.declared.validated.Validated.{Validated}
 use Rattle.q_run_validate.specs.declared.validated.Validated.TheVariants.{Valid, Invalid, Unknown, RefusedInput, RefusedText, RefusedCircuits, ReadFault, NoMemory}
 

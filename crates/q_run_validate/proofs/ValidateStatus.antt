@@ -14,7 +14,7 @@ use Rattle.q_certificate.proofs.Misfits.{misfit-not_fits}
 use Rattle.q_validate.specs.Refusals.{IsRefused, misfit_of}
 use Rattle.q_validate.specs.declared.error.ValidateError.{ValidateError}
 use Rattle.q_validate.specs.declared.error.ValidateError.TheVariants as refusal
-use Rattle.q_command.specs.Checks.{IsFileOf, IsNoFormula, MayCome, Exactly}
+use Rattle.q_command.specs.Checks.{IsFileOf, IsFormulaFile, IsNoFormula, MayCome, Exactly}
 use Rattle.q_command.specs.Sinks.{SinkView, IsDue}
 use Rattle.q_command.specs.declared.status.Status.{Status}
 use Rattle.q_command.specs.declared.unfit.Unfit.{Unfit}
@@ -24,7 +24,7 @@ use Rattle.q_command.proofs.CheckStatus.{one_formula, no_offence}
 use Rattle.q_command.proofs.ToldLaws.{ToldLaws, exact}
 use Rattle.q_command.proofs.FileFormulas.{file-formula}
 use Rattle.q_run_validate.specs.ValidatedLines.{status_of_validated}
-use Rattle.q_run_validate.specs.Validates.{ValidateFiles, error_of, OfFiles, IsFormulaFile, Says, Validates, IsCut, IsUnfit, AreValid, AreInvalid, AreUndecided, AreNoCircuits, ValidatesExactly, told}
+use Rattle.q_run_validate.specs.Validates.{ValidateFiles, error_of, OfFiles, Says, Validates, IsCut, IsUnfit, AreValid, AreInvalid, AreUndecided, AreNoCircuits, ValidatesExactly, told}
 use Rattle.q_run_validate.specs.declared.validated.Validated.{Validated}
 use Rattle.q_run_validate.specs.declared.validated.Validated.TheVariants.{Valid, Invalid, Unknown, RefusedInput, RefusedText, RefusedCircuits, ReadFault, NoMemory}
 

@@ -14,7 +14,7 @@ use Rattle.q_validate.specs.declared.validating.Answer.{Answer}
 use Rattle.q_validate.specs.declared.validating.Answer.TheVariants as answer
 use Rattle.q_validate.specs.declared.error.ValidateError.{ValidateError}
 use Rattle.q_validate.specs.declared.error.ValidateError.TheVariants as refusal
-use Rattle.q_command.specs.Checks.{IsFileOf, IsNoFormula, Exactly}
+use Rattle.q_command.specs.Checks.{IsFileOf, IsFormulaFile, IsNoFormula, Exactly, input_then}
 use Rattle.q_command.specs.Told.{Told, OrNoMemory}
 use Rattle.q_command.specs.declared.input.InputError.{InputError}
 use Rattle.q_command.specs.declared.input.InputError.TheVariants as input
@@ -90,9 +90,6 @@ pub record OfFiles (n : ValidateFiles) (disk : Disk) (P : PrenexFormula → Cert
   pub circuits : AreCircuits (bytes_at disk n.cert) given
   pub holds : P formula given
 
-abbrev pub IsFormulaFile : List ℕ → Type 0
-IsFormulaFile bytes = (F : PrenexFormula) × IsFileOf bytes F
-
 -- what there is to say of the two files; none changes
 abbrev pub Says : Validated → ValidateFiles → Option ℕ → Disk → Type 0
 Says Valid n budget disk = OfFiles n disk (λ F c. Judges Valid F c budget)
@@ -153,4 +150,6 @@ told n budget = record {
       × (AreUndecided n budget disk → OrNoMemory given status.Unknown);
   reads = names_read n;
   writes = [];
+  reads_at = input_then n.input n.cert;
+  writes_at = [];
 }

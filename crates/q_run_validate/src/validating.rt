@@ -1,6 +1,8 @@
 // IN is read, then CERT, then the circuits are judged.
 ghost use Rattle.std.specs.Prelude.{◌≡◌, ◌≢◌, IfSome};
 ghost use Rattle.q_io.specs.Files.{RoseAmong};
+ghost use Rattle.q_command.specs.Checks.{input_then};
+ghost use Rattle.q_command.specs.FirstFaults.{FaultAt};
 ghost use Rattle.q_command.specs.declared.status.Status.TheVariants as status;
 ghost use Rattle.q_run_validate.specs.ValidatedLines.{status_of_validated};
 ghost use Rattle.q_run_validate.specs.Validates.{files_of, Judges, Validates, refused_circuits as circuits_refused, refused_input as input_refused, refused_text as text_refused, names_read};
@@ -87,6 +89,9 @@ pub fn validate_files<F: Files>(
         Validates result (files_of names.entry) budget disk (F.held files.new)) }
     ensures read_fault { status_of_validated result ≡ status.ReadFault
         → RoseAmong F.read_faults (names_read (files_of names.entry)) files.old files.new }
+    ensures read_fault_at { status_of_validated result ≡ status.ReadFault
+        → FaultAt F.read_faults (input_then names.entry.input.now names.entry.cert.now)
+        (F.held files.old) (F.held files.new) files.old files.new }
     ensures write_fault { status_of_validated result ≢ status.WriteFault }
     ensures held { F.held files.new ≡ F.held files.old }
 {

@@ -67,7 +67,7 @@ none-own B k from (cover c) h p a = h (blocked_target.Cover c) p a
 none-own B k from (eliminate x) h p a = h (eliminate_target.Eliminate x) p a
 none-own B k from (expand_universal u) h p a = h (expand_target.Expand u) p a
 
-none-of : (r : Group) (B : Bounds) (k : Seen) (from : ℕ) → NoneOf r B k from → (t : Target) → IsOf r t → from ≤ place t → Applies B k t → ⊥
+pub none-of : (r : Group) (B : Bounds) (k : Seen) (from : ℕ) → NoneOf r B k from → (t : Target) → IsOf r t → from ≤ place t → Applies B k t → ⊥
 none-of r B k from h t i p a =
     none-own B k from t (subst (λ (x : Group). NoneOf x B k from) (sym (ap group_at i ∙ group_at-rank r)) h) p a
 
@@ -85,7 +85,7 @@ of-subsume (subsume_target.Strengthen a b c) = refl
 of-equiv : (t : TheMerge) → IsOf group.Merge (equiv.target_of t)
 of-equiv (equiv_target.Merge a b) = refl
 
-of-blocked : (t : TheBlock) → IsOf group.Block (blocked.target_of t)
+pub of-blocked : (t : TheBlock) → IsOf group.Block (blocked.target_of t)
 of-blocked (blocked_target.Blocked a b) = refl
 of-blocked (blocked_target.BlockedForall a b) = refl
 of-blocked (blocked_target.Cover a) = refl

@@ -17,12 +17,14 @@ searched-falls d old new turn.Moved s = (omega arith, omega (arith, s.2.lower))
 searched-falls d old new turn.Asked s = absurd s
 searched-falls d old new turn.Settled s = (refl, ap (λ (k : Seen). measure_of d.bounds (formula_in k)) s.1)
 searched-falls d old new turn.Spent s = absurd s
+searched-falls d old new turn.GaveWay s = (refl, ap (λ (k : Seen). measure_of d.bounds (formula_in k)) s)
 
 searched-ends : (d : Driving) (old new : Seen) (answer : Turn) → (¬ IsSpent d old) → Searched d.bounds old answer new → Ends answer d old new
 searched-ends d old new turn.Moved n s = (n, s.0, s.2)
 searched-ends d old new turn.Asked n s = absurd s
 searched-ends d old new turn.Settled n s = s
 searched-ends d old new turn.Spent n s = absurd s
+searched-ends d old new turn.GaveWay n s = s
 
 searched : (d : Driving) (old new : Seen) (answer : Turn) → (¬ IsSpent d old) → d.guides ≡ [] → Searched d.bounds old answer new → Turned d old answer d new
 searched d old new answer n e s = record {
@@ -40,6 +42,7 @@ answers-ends d old new turn.Moved n s = (n, s.0, s.1)
 answers-ends d old new turn.Asked n s = (n, s)
 answers-ends d old new turn.Settled n s = absurd s
 answers-ends d old new turn.Spent n s = absurd s
+answers-ends d old new turn.GaveWay n s = absurd s
 
 asked : (before : Driving) (old : Seen) (answer : Turn) (after : Driving) (new : Seen) → (¬ IsSpent before old) → before.guides ≢ [] → (¬ IsFinished before) → AsksFirst before old answer after new → Turned before old answer after new
 asked before old answer after new n g f a = record {

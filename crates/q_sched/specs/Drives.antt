@@ -39,6 +39,7 @@ Lowers turn.Moved left measure left2 measure2 = (left2 ≤ left) × (measure2 < 
 Lowers turn.Asked left measure left2 measure2 = (left2 < left) × (measure2 ≡ measure)
 Lowers turn.Settled left measure left2 measure2 = (left2 ≡ left) × (measure2 ≡ measure)
 Lowers turn.Spent left measure left2 measure2 = (left2 ≡ left) × (measure2 ≡ measure)
+Lowers turn.GaveWay left measure left2 measure2 = (left2 ≡ left) × (measure2 ≡ measure)
 
 -- the same over a drive and a kernel
 abbrev pub Falls : Turn → Driving → Seen → Driving → Seen → Type 0
@@ -99,19 +100,21 @@ pub record AsksOne (before after : List Meaning) (P : Meaning → Type 0) : Type
 abbrev pub Asks : Driving → Seen → Turn → Driving → Seen → Type 0
 Asks before old answer after new = AsksOne before.guides after.guides (λ then. Decides then.last then.heard before old answer after new)
 
--- a turn searches: a target of the first group that has one is taken
+-- a turn searches: a target of the first group that has one is taken; a search that gave way changes nothing
 abbrev pub Searched : Bounds → Seen → Turn → Seen → Type 0
 Searched B old turn.Moved new = (t : Target) × IsOfFirst B old t × IsTaken B old new t
 Searched B old turn.Asked new = ⊥
 Searched B old turn.Settled new = IsDone B old × (new ≡ old)
 Searched B old turn.Spent new = ⊥
+Searched B old turn.GaveWay new = new ≡ old
 
--- a turn at a spent budget
+-- a turn at a spent budget; where the search gave way, nothing is said
 abbrev pub Closes : Bounds → Seen → Turn → Type 0
 Closes B k turn.Moved = ⊥
 Closes B k turn.Asked = ⊥
 Closes B k turn.Settled = IsDone B k
 Closes B k turn.Spent = IsDone B k → ⊥
+Closes B k turn.GaveWay = Unit {0}
 
 -- a turn that answers want of memory: the first guide may have been asked
 pub record Stays (before : Driving) (old : Seen) (after : Driving) (new : Seen) : Type 0 where
@@ -127,6 +130,7 @@ Ends turn.Moved d old new = (¬ IsSpent d old) × (t : Target) × IsTaken d.boun
 Ends turn.Asked d old new = (¬ IsSpent d old) × SameView old new
 Ends turn.Settled d old new = IsDone d.bounds old × (new ≡ old)
 Ends turn.Spent d old new = IsSpent d old × (¬ IsDone d.bounds old) × (new ≡ old)
+Ends turn.GaveWay d old new = new ≡ old
 
 -- what an answer of a guide says by itself
 abbrev pub Answers : Turn → Bounds → Seen → Seen → Type 0
@@ -134,6 +138,7 @@ Answers turn.Moved B old new = (t : Target) × IsTaken B old new t
 Answers turn.Asked B old new = SameView old new
 Answers turn.Settled B old new = ⊥
 Answers turn.Spent B old new = ⊥
+Answers turn.GaveWay B old new = ⊥
 
 -- the first guide is asked, and what it proposes is tried
 pub record AsksFirst (before : Driving) (old : Seen) (answer : Turn) (after : Driving) (new : Seen) : Type 0 where

@@ -1,6 +1,9 @@
+pub mod Alarms
+pub mod AlarmViews
 pub mod Moves
 pub mod Settled
 pub mod Searching
+pub mod Looks
 pub mod Drives
 pub mod Replies
 pub mod Kinds

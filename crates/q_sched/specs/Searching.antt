@@ -6,7 +6,6 @@ use Rattle.q_kernel.specs.Prelude.{Seen, Applies}
 use Rattle.q_sched.specs.declared.moves.Group.{Group}
 use Rattle.q_sched.specs.declared.moves.Move.{Move}
 use Rattle.q_sched.specs.Moves.{target_of, rank_of, IsOf}
-use Rattle.q_sched.specs.Settled.{IsDone}
 
 -- a target of a group that applies and whose place is at least a number; none exactly where no such target applies
 pub record FindsOf (g : Group) (B : Bounds) (k : Seen) (from : ℕ) (answer : Option Move) : Type 0 where
@@ -20,8 +19,3 @@ NoneBelow B k n = (t : Target) → rank_of t < n → Applies B k t → ⊥
 -- no target of the groups that are searched before this target's applies
 abbrev pub IsOfFirst : Bounds → Seen → Target → Type 0
 IsOfFirst B k t = NoneBelow B k (rank_of t)
-
--- a target that applies, of the first group that has one; none exactly where no target applies
-pub record FindsAny (B : Bounds) (k : Seen) (answer : Option Move) : Type 0 where
-  pub some : (m : Move) → answer ≡ Some m → IsOfFirst B k (target_of m) × Applies B k (target_of m)
-  pub none : answer ≡ None → IsDone B k

@@ -3,11 +3,15 @@
 //! Each turn looks at the budget first. Where it is spent, one round of searches decides between `Settled` and `Spent`. Else
 //! the first guide is asked, or dropped once it is over or was refused often enough; where none is left, the rules are searched
 //! in their order. Each turn but the last lowers the formula's measure, or what `left` says, so turns come to an end whatever
-//! the guides do.
+//! the guides do. An alarm is asked on the way of each search; where it rings, the search gives way, and the turn says so.
 ghost use Rattle.std.specs.Prelude.{◌≡◌, ◌≢◌, ◌≤◌, ◌<◌, ◌^◌, [], take, IfOk, OnErr, vec_len, IsTrue, ◌↔◌, false};
 ghost use Rattle.q_kernel.specs.Prelude.{IsReady};
 ghost use Rattle.q_reduce.specs.Learned.{IsFitFor, nothing_learned};
+ghost use Rattle.q_sched.specs.Alarms.{IsQuiet};
+ghost use Rattle.q_sched.specs.AlarmViews.{view_alarm};
+ghost use Rattle.q_sched.specs.Looks.{Heeds};
 
+use crate::alarm::{Alarm, Never};
 use crate::asking::{Reply, ask_last};
 use crate::guide::Guide;
 use crate::searches::Searches;
@@ -145,13 +149,14 @@ impl Drive {
         }
     }
 
-    /// One turn. The kernel is as before but where a target is taken. It may be any kernel: what was learned in earlier turns is
-    /// forgotten.
+    /// One turn, by itself. The kernel is as before but where a target is taken. It may be any kernel: what was learned in earlier turns
+    /// is forgotten.
     pub fn turn(&mut self, kernel: &mut Kernel) -> Result<Turn, NoMemory>
         requires ready { IsReady kernel.old }
         ensures turned { IfOk result (λ turn.
             Turned (seen (λ b. asked b) (λ b. last b) (λ b. heard b) self.old) kernel.old turn
             (seen (λ b. asked b) (λ b. last b) (λ b. heard b) self.new) kernel.new) }
+        ensures whole { IfOk result (λ turn. turn ≢ Turn.GaveWay) }
         ensures err { OnErr result
             (Stays (seen (λ b. asked b) (λ b. last b) (λ b. heard b) self.old) kernel.old
             (seen (λ b. asked b) (λ b. last b) (λ b. heard b) self.new) kernel.new) }
@@ -159,28 +164,45 @@ impl Drive {
         ensures fit { IsFitFor kernel.new (learned self.new) }
     {
         self.searches.forget();
-        self.next_turn(kernel)
+        self.next_turn(kernel, &mut Never::new())
     }
 
-    /// The same, for a caller that shows that what was learned is right for this kernel, as it is after a turn over it. It is not
-    /// forgotten.
-    pub fn next_turn(&mut self, kernel: &mut Kernel) -> Result<Turn, NoMemory>
+    /// The same under an alarm, which is asked within a search, and for a caller that shows that what was learned is right for this
+    /// kernel, as it is after a turn over it. It is not forgotten.
+    pub fn next_turn<A: Alarm>(
+        &mut self,
+        kernel: &mut Kernel,
+        alarm: &mut A,
+    ) -> Result<Turn, NoMemory>
         requires ready { IsReady kernel.old }
         requires fit { IsFitFor kernel.old (learned self.old) }
         ensures turned { IfOk result (λ turn.
-            Turned (seen (λ b. asked b) (λ b. last b) (λ b. heard b) self.old) kernel.old turn
-            (seen (λ b. asked b) (λ b. last b) (λ b. heard b) self.new) kernel.new) }
+            Turned (seen (λ b. (⟦<dyn Guide as Guide>⟧ b.vtable).asked b.value) (λ b.
+            (⟦<dyn Guide as Guide>⟧ b.vtable).last b.value) (λ b.
+            (⟦<dyn Guide as Guide>⟧ b.vtable).heard b.value) self.old) kernel.old turn
+            (seen (λ b. (⟦<dyn Guide as Guide>⟧ b.vtable).asked b.value) (λ b.
+            (⟦<dyn Guide as Guide>⟧ b.vtable).last b.value) (λ b.
+            (⟦<dyn Guide as Guide>⟧ b.vtable).heard b.value) self.new) kernel.new) }
         ensures err { OnErr result
-            (Stays (seen (λ b. asked b) (λ b. last b) (λ b. heard b) self.old) kernel.old
-            (seen (λ b. asked b) (λ b. last b) (λ b. heard b) self.new) kernel.new) }
+            (Stays (seen (λ b. (⟦<dyn Guide as Guide>⟧ b.vtable).asked b.value) (λ b.
+            (⟦<dyn Guide as Guide>⟧ b.vtable).last b.value) (λ b.
+            (⟦<dyn Guide as Guide>⟧ b.vtable).heard b.value) self.old) kernel.old
+            (seen (λ b. (⟦<dyn Guide as Guide>⟧ b.vtable).asked b.value) (λ b.
+            (⟦<dyn Guide as Guide>⟧ b.vtable).last b.value) (λ b.
+            (⟦<dyn Guide as Guide>⟧ b.vtable).heard b.value) self.new) kernel.new) }
         ensures ready { IsReady kernel.new }
         ensures fit { IsFitFor kernel.new (learned self.new) }
+        ensures heeds { IfOk result (λ turn.
+            Heeds turn (view_alarm A.Alarm alarm.old) (view_alarm A.Alarm alarm.new)) }
+        ensures quiet { OnErr result
+            (IsQuiet (view_alarm A.Alarm alarm.old) (view_alarm A.Alarm alarm.new)) }
     {
+        let guided = !self.waiting.is_empty();
         if self.is_spent(kernel.measure(&self.bounds)) {
-            return close(kernel, &mut self.searches, &self.bounds);
+            return close(kernel, &mut self.searches, &self.bounds, alarm, guided);
         }
         if self.waiting.is_empty() {
-            return search(kernel, &mut self.searches, &self.bounds);
+            return search(kernel, &mut self.searches, &self.bounds, alarm);
         }
         if self.is_over || self.refusals == MOST_REFUSALS {
             self.drop_first();

@@ -4,8 +4,13 @@ ghost use Rattle.q_kernel.specs.Prelude.{Seen, SameView, IsReady, Applies};
 ghost use Rattle.q_reduce.specs.Learned.{nothing_learned, IsFitFor};
 ghost use Rattle.q_rule.specs.Searching.{Tries};
 ghost use Rattle.q_sched.specs.Moves.{target_of};
-ghost use Rattle.q_sched.specs.Searching.{FindsOf, FindsAny};
+ghost use Rattle.q_sched.specs.Searching.{FindsOf};
+ghost use Rattle.q_sched.specs.Alarms.{IsQuiet};
+ghost use Rattle.q_sched.specs.AlarmViews.{view_alarm};
+ghost use Rattle.q_sched.specs.Looks.{HeedsIn, LooksOf, LooksAny};
 
+use crate::alarm::Alarm;
+use crate::looking::{Look, look_for_blocked, look_of, rings_before};
 use crate::moves::{GROUPS, Group, Move};
 use q_blocked::Step;
 use q_kernel::{Kernel, Taken};
@@ -143,19 +148,58 @@ impl Searches {
         Ok(found)
     }
 
-    /// A target of the first group that has one; none exactly where no target applies.
-    pub fn find_any(&mut self, kernel: &Kernel, bounds: &Bounds) -> Result<Option<Move>, NoMemory>
+    // A target of a group, under an alarm that is asked within the longest search.
+    fn look<A: Alarm>(
+        &mut self,
+        kernel: &Kernel,
+        group: Group,
+        bounds: &Bounds,
+        alarm: &mut A,
+        guided: bool,
+    ) -> Result<Look, NoMemory>
         requires ready { IsReady kernel.now }
         requires fit { IsFitFor kernel.now self.old }
-        ensures finds { IfOk result (FindsAny bounds.now kernel.now) }
+        ensures looks { IfOk result (LooksOf group bounds.now kernel.now) }
         ensures fit { IsFitFor kernel.now self.new }
+        ensures heeds { IfOk result (λ look.
+            HeedsIn look (view_alarm A.Alarm alarm.old) (view_alarm A.Alarm alarm.new)) }
+        ensures quiet { OnErr result
+            (IsQuiet (view_alarm A.Alarm alarm.old) (view_alarm A.Alarm alarm.new)) }
+    {
+        match group {
+            Group::Block => look_for_blocked(kernel, &mut self.blocked, bounds, alarm, guided),
+            _ => Ok(look_of(self.find(kernel, group, bounds, 0)?)),
+        }
+    }
+
+    /// A target of the first group that has one; none exactly where no target applies. The alarm is asked on the way, and where it rings,
+    /// the search gives way.
+    pub fn look_any<A: Alarm>(
+        &mut self,
+        kernel: &Kernel,
+        bounds: &Bounds,
+        alarm: &mut A,
+        guided: bool,
+    ) -> Result<Look, NoMemory>
+        requires ready { IsReady kernel.now }
+        requires fit { IsFitFor kernel.now self.old }
+        ensures looks { IfOk result (LooksAny bounds.now kernel.now) }
+        ensures fit { IsFitFor kernel.now self.new }
+        ensures heeds { IfOk result (λ look.
+            HeedsIn look (view_alarm A.Alarm alarm.old) (view_alarm A.Alarm alarm.new)) }
+        ensures quiet { OnErr result
+            (IsQuiet (view_alarm A.Alarm alarm.old) (view_alarm A.Alarm alarm.new)) }
     {
         for place in 0..GROUPS {
-            let found = self.find(kernel, Group::at(place), bounds, 0)?;
-            if found.is_some() {
-                return Ok(found);
+            if rings_before(alarm, place, guided) {
+                return Ok(Look::GaveWay);
+            }
+            match self.look(kernel, Group::at(place), bounds, alarm, guided)? {
+                Look::Found(target) => return Ok(Look::Found(target)),
+                Look::Nothing => {}
+                Look::GaveWay => return Ok(Look::GaveWay),
             }
         }
-        Ok(None)
+        Ok(Look::Nothing)
     }
 }

@@ -10,4 +10,6 @@ pub enum Turn {
     Settled,
     /// Some target applies, and the budget is spent.
     Spent,
+    /// The alarm rang while the rules were searched, and the formula is as before.
+    GaveWay,
 }

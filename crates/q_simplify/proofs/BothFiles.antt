@@ -1,24 +1,24 @@
 -- The two files together.
-use Rattle.std.proofs.Common.{◌≡◌, ◌≢◌, ◌≤◌, ◌-◌, inl, inr, ℕ, List, [], ◌∷◌, arith, refl, sym, ap, ◌∙◌, subst, length, take, append-nil, Option, Some, None, unwrap_or, IfSome}
+use Rattle.std.proofs.Common.{◌≡◌, ◌≢◌, ◌≤◌, inl, inr, ℕ, List, [], arith, refl, sym, ap, ◌∙◌, subst, length, take, append-nil, Option, Some, None, unwrap_or, IfSome}
 use Rattle.std.specs.FinMap as map
-use Rattle.q_logic.specs.Prelude.{PrenexFormula, IsProper, Matrix, Prefix, size_of, measure_of, formula_of, numbered, occurring, swept}
-use Rattle.q_logic.proofs.Common.{Run-justified, settled-nothing}
+use Rattle.q_logic.specs.Prelude.{PrenexFormula, IsProper, size_of, measure_of}
+use Rattle.q_logic.proofs.Common.{Run-justified}
 use Rattle.q_logic.proofs.Repeated.{run-true_to}
 use Rattle.q_io.specs.Files.{Disk, HoldsBytes, MayEmpty, MayHoldFront}
 use Rattle.q_log.specs.Texts.{steps_text}
 use Rattle.q_simplify.specs.declared.options.Options.{Options}
 use Rattle.q_simplify.specs.declared.report.Report.{Report}
-use Rattle.q_simplify.specs.Alarms.{AlarmView}
+use Rattle.q_sched.specs.Alarms.{AlarmView}
 use Rattle.q_simplify.specs.Logs.{HoldsFront, LeavesLog}
-use Rattle.q_simplify.specs.Results.{IsReport, IsReportUntil, IsEnoughFor, EndsAs, HoldsRun, LeadsTo, Simplifies, SimplifiesUntil, Leaves, with_budget}
-use Rattle.q_logic.specs.declared.rule_bounds.Bounds.{Bounds}
+use Rattle.q_simplify.specs.Results.{IsReport, IsReportUntil, IsStopped, IsEnoughFor, EndsAs, HoldsRun, LeadsTo, LogStands, Writes, SimplifiesUntil, Leaves}
 use Rattle.q_dimacs.specs.Writing.{formula_text}
-use Rattle.q_sched.specs.Settled.{IsSettled, NoneApplies}
+use Rattle.q_sched.specs.Settled.{IsSettled}
 use Rattle.q_sched.specs.Drives.{IsSpentAt}
 use Rattle.q_simplify.specs.declared.report.Ending.{Ending}
 use Rattle.q_simplify.specs.declared.report.Ending.TheVariants as ending
 use Rattle.q_io.proofs.StoreContents.{at_some}
 use Rattle.q_simplify.proofs.LogFile.{take-front}
+use Rattle.q_simplify.proofs.Decided.{nothing-settled, small-nothing}
 use Rattle.q_simplify.proofs.StopReasons.{swept-numbered}
 
 -- the log stays where another file is written
@@ -36,8 +36,8 @@ whole-front F G ln d h =
       bytes = ap (λ o. unwrap_or o []) h.bytes ∙ (sym (take-front (steps_text h.steps) []) ∙ ap (λ xs. take (length (steps_text h.steps)) xs) (append-nil (steps_text h.steps)));
     }
 
-pub simplifies : (o : Options) (F G : PrenexFormula) (r : Report) (on ln : List ℕ) (before : Disk) (mid after : Option Disk) → on ≢ ln → IsProper F → IsReport o F r G → LeadsTo F G ln before mid → IfSome mid (λ disk. HoldsBytes on (formula_text G) disk after) → Simplifies o F r on ln before after
-simplifies o F G r on ln before mid after n p i l w =
+pub writes : (Is : PrenexFormula → Type 0) (F G : PrenexFormula) (on ln : List ℕ) (before : Disk) (mid after : Option Disk) → on ≢ ln → IsProper F → Is G → LeadsTo F G ln before mid → IfSome mid (λ disk. HoldsBytes on (formula_text G) disk after) → Writes Is F on ln before after
+writes Is F G on ln before mid after n p i l w =
     let t : HoldsBytes on (formula_text G) l.disk after = at_some _ mid w l.disk l.told in
     record {
       disk = t.disk;
@@ -50,10 +50,10 @@ simplifies o F G r on ln before mid after n p i l w =
       others = λ q a b. t.others q a ∙ l.others q b;
     }
 
--- the same where an alarm may have stopped the run
+-- where an alarm may have stopped the run
 pub simplifies-until : (a b : AlarmView) (o : Options) (F G : PrenexFormula) (r : Report) (on ln : List ℕ) (before : Disk) (mid after : Option Disk) → on ≢ ln → IsProper F → IsReportUntil a b o F r G → LeadsTo F G ln before mid → IfSome mid (λ disk. HoldsBytes on (formula_text G) disk after) → SimplifiesUntil a b o F r on ln before after
-simplifies-until a b o F G r on ln before mid after n p (inl i) l w = inl (simplifies o F G r on ln before mid after n p i l w)
-simplifies-until a b o F G r on ln before mid after n p (inr (z, s, i)) l w = inr (z, s, simplifies (with_budget o (r.before - r.after)) F G r on ln before mid after n p i l w)
+simplifies-until a b o F G r on ln before mid after n p (inl i) l w = inl (writes (λ (H : PrenexFormula). IsReport o F r H) F G on ln before mid after n p i l w)
+simplifies-until a b o F G r on ln before mid after n p (inr (z, i)) l w = inr (z, writes (λ (H : PrenexFormula). IsStopped o F r H) F G on ln before mid after n p i l w)
 
 -- the log could not be created
 pub leaves-not_created : (F : PrenexFormula) (on ln : List ℕ) (before : Disk) (after : Option Disk) → on ≢ ln → MayEmpty ln before after → Leaves F on ln before after
@@ -85,9 +85,15 @@ leaves-part F G on ln before mid after n l w =
       others = λ q a b. t.others q a ∙ l.others q b;
     }
 
+-- the log stays where the output could not be written
+pub log-stands : (F G : PrenexFormula) (on ln : List ℕ) (before : Disk) (mid after : Option Disk) → on ≢ ln → LeadsTo F G ln before mid → IfSome mid (λ disk. MayHoldFront on (formula_text G) disk after) → LogStands F ln after
+log-stands F G on ln before mid after n l w =
+    let t : MayHoldFront on (formula_text G) l.disk after = at_some _ mid w l.disk l.told in
+    (t.disk, t.told, G, kept-run F G ln l.disk t.disk (t.others ln (λ e. n (sym e))) l.log)
+
 -- whole files hold such fronts
-pub leaves-whole : (o : Options) (F : PrenexFormula) (r : Report) (on ln : List ℕ) (before : Disk) (after : Option Disk) → Simplifies o F r on ln before after → Leaves F on ln before after
-leaves-whole o F r on ln before after s =
+pub leaves-whole : (Is : PrenexFormula → Type 0) (F : PrenexFormula) (on ln : List ℕ) (before : Disk) (after : Option Disk) → Writes Is F on ln before after → Leaves F on ln before after
+leaves-whole Is F on ln before after s =
     record {
       disk = s.disk;
       told = s.told;
@@ -100,20 +106,6 @@ leaves-whole o F r on ln before after s =
       });
       others = s.others;
     }
-
--- a formula without clauses is settled
-occurring-nothing : (P : Prefix) → occurring P [] ≡ []
-occurring-nothing [] = refl
-occurring-nothing (b ∷ P) = occurring-nothing P
-
-nothing-settled : (B : Bounds) (P : Prefix) (X : Matrix) → X ≡ [] → swept (formula_of P X) ≡ formula_of P X → NoneApplies B P (numbered X)
-nothing-settled B P X e s =
-    let p : P ≡ [] = sym (ap (λ (G : PrenexFormula). G.prefix) (subst (λ (Y : Matrix). swept (formula_of P Y) ≡ formula_of P Y) e s)) ∙ occurring-nothing P in
-    subst (λ (Y : Matrix). NoneApplies B P (numbered Y)) (sym e) (subst (λ (Q : Prefix). NoneApplies B Q (numbered [])) (sym p) (settled-nothing B [] refl).1)
-
-small-nothing : (X : Matrix) → size_of X ≤ 0 → X ≡ []
-small-nothing [] h = refl
-small-nothing (C ∷ X) h = absurd (omega arith)
 
 -- a budget that the measure does not pass is not spent
 pub never-spent : (o : Options) (F G : PrenexFormula) (r : Report) → IsReport o F r G → r.ending ≡ ending.Spent → IsEnoughFor o.budget (measure_of o.bounds F) → ⊥

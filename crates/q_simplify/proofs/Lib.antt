@@ -1,10 +1,11 @@
+pub mod AskedTurns
 pub mod StoppedRuns
-pub mod AlarmTurns
 pub mod LogFile
 pub mod TurnEffects
 pub mod NumberIndependence
 pub mod StopReasons
 pub mod KernelWork
+pub mod Decided
 pub mod BothFiles
 pub mod DriveMeasure
 pub mod Putting

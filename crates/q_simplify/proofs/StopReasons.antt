@@ -8,7 +8,7 @@ use Rattle.q_simplify.specs.declared.options.Options.{Options}
 use Rattle.q_simplify.specs.declared.report.Ending.{Ending}
 use Rattle.q_simplify.specs.declared.report.Ending.TheVariants as ending
 use Rattle.q_simplify.specs.declared.stop.Stop.{Stop}
-use Rattle.q_simplify.specs.declared.stop.Stop.TheVariants.{Settled, Spent}
+use Rattle.q_simplify.specs.declared.stop.Stop.TheVariants.{Settled, Spent, Stopped}
 use Rattle.q_sched.specs.Settled.{IsSettled, IsDone}
 use Rattle.q_sched.specs.Drives.{IsSpentAt}
 use Rattle.q_simplify.specs.Stops.{Stops}
@@ -43,6 +43,7 @@ ends Spent o first F G k m g s h = (
   (λ n. h.1 (settled-done o.bounds k (subst (λ (H : PrenexFormula). IsSettled o.bounds H) g n))),
   subst (λ (f : ℕ). IsSpentAt o.budget f (measure_of o.bounds G)) m (subst (λ (H : PrenexFormula). IsSpentAt o.budget first (measure_of o.bounds H)) (sym g) h.0),
 )
+ends Stopped o first F G k m g s h = absurd h
 
 -- only a spent budget leaves a target that applies
 pub spent-exactly : (x : Ending) (o : Options) (F G : PrenexFormula) → EndsAs x o F G → (x ≡ ending.Spent) ↔ (IsSpentAt o.budget (measure_of o.bounds F) (measure_of o.bounds G) × ¬ IsSettled o.bounds G)
@@ -50,3 +51,4 @@ spent-exactly ending.Settled o F G h = ((λ e. cc), (λ s. absurd (s.1 h.0)))
 spent-exactly ending.True o F G h = ((λ e. cc), (λ s. absurd (s.1 h.0)))
 spent-exactly ending.False o F G h = ((λ e. cc), (λ s. absurd (s.1 h.0)))
 spent-exactly ending.Spent o F G h = ((λ e. (h.1, h.0)), (λ s. refl))
+spent-exactly ending.Stopped o F G h = absurd h

@@ -1,16 +1,15 @@
 -- A run that is stopped is one whose budget was spent there: each formula before a move has a larger measure than all that come
 -- after it.
-use Rattle.std.proofs.Common.{◌≡◌, ◌≤◌, ◌+◌, ◌-◌, inl, inr, ◌⊎◌, ℕ, List, [], ◌∷◌, Option, Some, None, refl, sym, subst, arith}
-use Rattle.std.proofs.lemmas.Bool.{cases_lt}
+use Rattle.std.proofs.Common.{◌≡◌, ◌≤◌, ◌+◌, ◌-◌, inl, inr, ℕ, List, [], ◌∷◌, Option, Some, refl, sym, subst, arith}
 use Rattle.q_logic.specs.declared.rule_bounds.Bounds.{Bounds}
 use Rattle.q_logic.specs.Prelude.{PrenexFormula, live, formula_of, result_of, AreAlike, measure_of, Prefix}
 use Rattle.q_logic.proofs.MeasureFalls.{measure-alike}
 use Rattle.q_logic.proofs.TargetRuns.{target-falls}
 use Rattle.q_kernel.specs.Prelude.{Seen, formula_in}
-use Rattle.q_sched.specs.Drives.{Driving, IsSpentAt}
-use Rattle.q_simplify.specs.Alarms.{AlarmView, Rang}
+use Rattle.q_sched.specs.Drives.{Driving}
+use Rattle.q_sched.specs.Alarms.{AlarmView, Rang}
 use Rattle.q_simplify.specs.Moves.{IsMove, MovesOver, MovesTo}
-use Rattle.q_simplify.specs.Stops.{Closes, IsBelow, IsDriveOver, TurnsEndFrom}
+use Rattle.q_simplify.specs.Stops.{Closes, HasFallen, TurnsEndFrom}
 use Rattle.q_simplify.specs.declared.stop.Stop.{Stop}
 use Rattle.q_simplify.specs.declared.stop.Stop.TheVariants as stop
 
@@ -58,30 +57,20 @@ moves-fell B budget first S G m s = below (measure_of B G) (measure_of B S) firs
 
 -- targets are taken from S on up to G, under any budget or none: then they are under the budget by which the measure has fallen,
 -- which is spent at G, and at no formula before a move
-stopped_is_spent : (B : Bounds) (budget : Option ℕ) (first : ℕ) (S G : PrenexFormula) → MovesTo B budget first S G → measure_of B S ≤ first →
-    MovesTo B (Some (first - measure_of B G)) first S G × IsSpentAt (Some (first - measure_of B G)) first (measure_of B G)
-stopped_is_spent B budget first S G m s =
-    let l : measure_of B G ≤ first = moves-fell B budget first S G m s in
-    ((m.0, moves-above B budget first (measure_of B G) S m.0 G (omega arith) l m.1), spent (measure_of B G) first l)
-  where
-    spent : (x z : ℕ) → x ≤ z → x + (z - x) ≤ z
-    spent x z l = omega arith
+moves-short : (B : Bounds) (budget : Option ℕ) (first : ℕ) (S G : PrenexFormula) → MovesTo B budget first S G → measure_of B S ≤ first → MovesTo B (Some (first - measure_of B G)) first S G
+moves-short B budget first S G m s = (m.0, moves-above B budget first (measure_of B G) S m.0 G (omega arith) (moves-fell B budget first S G m s) m.1)
 
--- a budget is spent, or larger than what the measure fell by
-spent_or_below : (budget : Option ℕ) (first now : ℕ) → now ≤ first → IsSpentAt budget first now ⊎ IsBelow (first - now) budget
-spent_or_below None first now l = inr tt
-spent_or_below (Some b) first now l = elim (cases_lt first (now + b)) [ inl h ↦ inr (omega arith) | inr h ↦ inl h ]
-
--- the alarm rang: under the given budget, where that is spent too or nothing is left, and else under one that is just spent
-pub rang-stops : (a b : AlarmView) (s : Stop) (B : Bounds) (d : Driving) (i j : Seen) → Rang a b → IsDriveOver B i d → MovesTo d.bounds d.budget d.first_measure (formula_in i) (formula_in j) → Closes B j s →
-    TurnsEndFrom a b s d i j
-rang-stops a b s B d i j r o m c = go s (subst (λ (D : Bounds). Closes D j s) (sym o.bounds) c)
-  where
-    go : (s : Stop) → Closes d.bounds j s → TurnsEndFrom a b s d i j
-    go stop.Settled c = inl (record { moves = m; stops = c })
-    go stop.Spent c =
-        let x = stopped_is_spent d.bounds d.budget d.first_measure (formula_in i) (formula_in j) m o.fell in
-        elim (spent_or_below d.budget d.first_measure (measure_of d.bounds (formula_in j)) (moves-fell d.bounds d.budget d.first_measure (formula_in i) (formula_in j) m o.fell)) [
-          | inl y ↦ inl (record { moves = m; stops = (y, c) })
-          | inr n ↦ inr (r, record { spent = refl; below = n; turns = record { moves = x.0; stops = (x.1, c) } })
-        ]
+-- where the alarm rang
+pub rang-stops : (a b : AlarmView) (s : Stop) (d : Driving) (i j : Seen) → Rang a b → HasFallen i d → MovesTo d.bounds d.budget d.first_measure (formula_in i) (formula_in j) → Closes d.bounds j s → TurnsEndFrom a b s d i j
+rang-stops a b stop.Settled d i j r f m c = inl (record { moves = m; stops = c })
+rang-stops a b stop.Spent d i j r f m c = absurd c
+rang-stops a b stop.Stopped d i j r f m c = inr (
+  r,
+  record {
+    stopped = refl;
+    undecided = c;
+    fell = moves-fell d.bounds d.budget d.first_measure (formula_in i) (formula_in j) m f.fell;
+    moves = m;
+    short = moves-short d.bounds d.budget d.first_measure (formula_in i) (formula_in j) m f.fell;
+  },
+)

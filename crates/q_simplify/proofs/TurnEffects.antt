@@ -20,6 +20,7 @@ has_log-turned turn.Moved d F name before j k after e h = has_log-led F name bef
 has_log-turned turn.Asked d F name before j k after e h = has_log-same F name before j k after h e.1
 has_log-turned turn.Settled d F name before j k after e h = subst (λ (m : Seen). HasLog F name before m after) (sym e.1) h
 has_log-turned turn.Spent d F name before j k after e h = subst (λ (m : Seen). HasLog F name before m after) (sym e.2) h
+has_log-turned turn.GaveWay d F name before j k after e h = subst (λ (m : Seen). HasLog F name before m after) (sym e) h
 
 pub ready-same : (j k : Seen) → formula_in k ≡ formula_in j → IsReady j → IsReady k
 ready-same j k e r =
@@ -47,6 +48,7 @@ moves-turned turn.Moved e d S j k s h m = (formula_in j ∷ m.0, (spent-framed e
 moves-turned turn.Asked e d S j k s h m = moves-same e.bounds e.budget e.first_measure S (formula_in j) (formula_in k) h.1.formula m
 moves-turned turn.Settled e d S j k s h m = moves-same e.bounds e.budget e.first_measure S (formula_in j) (formula_in k) (ap formula_in h.1) m
 moves-turned turn.Spent e d S j k s h m = moves-same e.bounds e.budget e.first_measure S (formula_in j) (formula_in k) (ap formula_in h.2) m
+moves-turned turn.GaveWay e d S j k s h m = moves-same e.bounds e.budget e.first_measure S (formula_in j) (formula_in k) (ap formula_in h) m
 
 pub moves-flushed : (B : Bounds) (budget : Option ℕ) (first : ℕ) (S : PrenexFormula) (j k : Seen) → k.prefix ≡ j.prefix → slots k ≡ slots j → MovesTo B budget first S (formula_in j) → MovesTo B budget first S (formula_in k)
 moves-flushed B budget first S j k p e m = moves-same B budget first S (formula_in j) (formula_in k) (same-formula j k p e) m

@@ -1,5 +1,3 @@
-pub mod Alarms
-pub mod AlarmViews
 pub mod Moves
 pub mod Stops
 pub mod Logs

@@ -15,10 +15,10 @@ use Rattle.q_simplify.specs.declared.stop.Stop.{Stop}
 use Rattle.q_simplify.specs.declared.stop.Stop.TheVariants as stop
 use Rattle.q_sched.specs.Settled.{IsSettled}
 use Rattle.q_sched.specs.Drives.{IsSpentAt}
-use Rattle.q_simplify.specs.Alarms.{AlarmView, Rang}
+use Rattle.q_sched.specs.Alarms.{AlarmView, UnlessRung}
 use Rattle.q_simplify.specs.Logs.{MayHoldSteps}
 use Rattle.q_simplify.specs.Moves.{MovesTo}
-use Rattle.q_simplify.specs.Stops.{IsBelow}
+use Rattle.q_simplify.specs.Stops.{IsUndecided}
 
 -- how it ends, by why no further turn comes and by the clauses that are left
 abbrev pub by_clauses : Matrix → Ending
@@ -28,14 +28,17 @@ by_clauses ((k ∷ C) ∷ X) = ending.Settled
 
 abbrev pub ends_as : Stop → PrenexFormula → Ending
 ends_as stop.Spent G = ending.Spent
+ends_as stop.Stopped G = ending.Stopped
 ends_as stop.Settled G = by_clauses G.matrix
 
--- how it ended, from F to G: settled, with no clause, with the empty clause or with others; or with the budget spent
+-- how it ended, from F to G: settled, with no clause, with the empty clause or with others; or with the budget spent. By itself no run
+-- stops
 abbrev pub EndsAs : Ending → Options → PrenexFormula → PrenexFormula → Type 0
 EndsAs ending.Settled o F G = IsSettled o.bounds G × (G.matrix ≢ []) × (G ≢ falsity)
 EndsAs ending.True o F G = IsSettled o.bounds G × (G.matrix ≡ [])
 EndsAs ending.False o F G = IsSettled o.bounds G × (G ≡ falsity)
 EndsAs ending.Spent o F G = (¬ IsSettled o.bounds G) × IsSpentAt o.budget (measure_of o.bounds F) (measure_of o.bounds G)
+EndsAs ending.Stopped o F G = ⊥
 
 abbrev pub SaysSpent : Ending → Type 0
 SaysSpent e = e ≡ ending.Spent
@@ -52,6 +55,20 @@ pub record IsReport (o : Options) (F : PrenexFormula) (r : Report) (G : PrenexFo
   pub moves : MovesTo o.bounds o.budget (measure_of o.bounds F) (sweep_of F) G
   pub readable : Dimacs standard (formula_text G) G
 
+-- the same where an alarm rang: it says so, and nothing of whether a target is left; but a formula that is decided is settled
+pub record IsStopped (o : Options) (F : PrenexFormula) (r : Report) (G : PrenexFormula) : Type 0 where
+  pub swept : IsSwept G
+  pub before : r.before ≡ measure_of o.bounds F
+  pub after : r.after ≡ measure_of o.bounds G
+  pub ending : r.ending ≡ ending.Stopped
+  pub undecided : IsUndecided G
+  pub fell : r.after ≤ r.before
+  -- targets were taken from F, swept, on, each where the given budget was not yet spent
+  pub moves : MovesTo o.bounds o.budget (measure_of o.bounds F) (sweep_of F) G
+  -- and so under the budget by which the measure fell, which is just spent
+  pub short : MovesTo o.bounds (Some (r.before - r.after)) (measure_of o.bounds F) (sweep_of F) G
+  pub readable : Dimacs standard (formula_text G) G
+
 -- the file of the log holds the text of a run from F to G; the steps are those of their text
 pub record HoldsRun (F G : PrenexFormula) (log_name : List ℕ) (disk : Disk) : Type 0 where
   pub steps : List ProofStep
@@ -66,21 +83,33 @@ pub record LeadsTo (F G : PrenexFormula) (log_name : List ℕ) (before : Disk) (
   pub log : HoldsRun F G log_name disk
   pub others : OthersStay log_name before disk
 
+-- the log is whole, wherever it leads
+abbrev pub LogStands : PrenexFormula → List ℕ → Option Disk → Type 0
+LogStands F log_name after = (disk : Disk) × (after ≡ Some disk) × (G : PrenexFormula) × HoldsRun F G log_name disk
+
 -- each name but these two is as before
 abbrev pub OnlyThese : List ℕ → List ℕ → Disk → Disk → Type 0
 OnlyThese output log before after =
     (q : List ℕ) → q ≢ output → q ≢ log → map.get after q ≡ map.get before q
 
--- the two files hold the texts of such a formula and such steps, and the two formulas have one truth value
-pub record Simplifies (o : Options) (F : PrenexFormula) (r : Report) (output_name log_name : List ℕ) (before : Disk) (after : Option Disk) : Type 0 where
+-- the two files hold the texts of a formula, of which this holds, and of steps that lead to it, and the two formulas have one truth value
+pub record Writes (Is : PrenexFormula → Type 0) (F : PrenexFormula) (output_name log_name : List ℕ) (before : Disk) (after : Option Disk) : Type 0 where
   pub disk : Disk
   pub told : after ≡ Some disk
   pub result : PrenexFormula
-  pub report : IsReport o F r result
+  pub report : Is result
   pub truth : Holds F ↔ Holds result
   pub output : map.get disk output_name ≡ Some (formula_text result)
   pub log : HoldsRun F result log_name disk
   pub others : OnlyThese output_name log_name before disk
+
+-- the files of a run that ends by itself
+abbrev pub Simplifies : Options → PrenexFormula → Report → List ℕ → List ℕ → Disk → Option Disk → Type 0
+Simplifies o F r output_name log_name before after = Writes (λ G. IsReport o F r G) F output_name log_name before after
+
+-- the files of a run that an alarm stopped
+abbrev pub SimplifiesPart : Options → PrenexFormula → Report → List ℕ → List ℕ → Disk → Option Disk → Type 0
+SimplifiesPart o F r output_name log_name before after = Writes (λ G. IsStopped o F r G) F output_name log_name before after
 
 -- the log is whole, and the output holds a front of the text of the formula that it leads to
 pub record HoldsPart (F : PrenexFormula) (output_name log_name : List ℕ) (disk : Disk) : Type 0 where
@@ -102,23 +131,10 @@ abbrev pub IsEnoughFor : Option ℕ → ℕ → Type 0
 IsEnoughFor None first = Unit {0}
 IsEnoughFor (Some budget) first = first ≤ budget
 
--- these options with another budget
-abbrev pub with_budget : Options → ℕ → Options
-with_budget o budget = record { bounds = o.bounds; budget = Some budget }
-
--- it says that a budget is spent: the one by which the measure fell, which is smaller than the given one
-pub record IsShort (o : Options) (r : Report) : Type 0 where
-  pub ending : SaysSpent r.ending
-  pub below : IsBelow (r.before - r.after) o.budget
-
--- there is a budget under which this holds: the given one, or, where the alarm rang, a smaller one that is just spent
-abbrev pub UnderSome : (Options → Type 0) → AlarmView → AlarmView → Options → Report → Type 0
-UnderSome Is before after o r = Is o ⊎ (Rang before after × IsShort o r × Is (with_budget o (r.before - r.after)))
-
 abbrev pub IsReportUntil : AlarmView → AlarmView → Options → PrenexFormula → Report → PrenexFormula → Type 0
-IsReportUntil before after o F r G = UnderSome (λ p. IsReport p F r G) before after o r
+IsReportUntil before after o F r G = UnlessRung before after (IsReport o F r G) (IsStopped o F r G)
 
--- both files are those of a run that ends by itself, or that an alarm stopped
+-- both files are those of a run that ends by itself or, where the alarm rang, of one that it stopped
 abbrev pub SimplifiesUntil : AlarmView → AlarmView → Options → PrenexFormula → Report → List ℕ → List ℕ → Disk → Option Disk → Type 0
 SimplifiesUntil first last o F r output_name log_name before after =
-    UnderSome (λ p. Simplifies p F r output_name log_name before after) first last o r
+    UnlessRung first last (Simplifies o F r output_name log_name before after) (SimplifiesPart o F r output_name log_name before after)

@@ -1,54 +1,81 @@
 // Turns until there is no further one or an alarm rings, and the log of each.
-ghost use Rattle.std.specs.Prelude.{◌≤◌, ◌^◌, IfOk};
+ghost use Rattle.std.specs.Prelude.{◌≤◌, ◌^◌, IfOk, OnErr};
+ghost use Rattle.q_logic.specs.declared.rule_bounds.Bounds.{Bounds};
 ghost use Rattle.q_logic.specs.Prelude.{measure_of};
 ghost use Rattle.q_kernel.specs.Prelude.{formula_in, IsReady};
 ghost use Rattle.q_reduce.specs.Learned.{IsFitFor};
 ghost use Rattle.q_sched.specs.Seen.{seen, learned};
-ghost use Rattle.q_simplify.specs.Alarms.{IsHeard, WasAsked};
-ghost use Rattle.q_simplify.specs.AlarmViews.{view_alarm};
-ghost use Rattle.q_simplify.specs.Stops.{Closes, IsDriveOver, TurnsEndFrom, TurnsEndUntil};
+ghost use Rattle.q_sched.specs.Alarms.{IsHeard, IsQuiet, WasAsked};
+ghost use Rattle.q_sched.specs.AlarmViews.{view_alarm};
+ghost use Rattle.q_sched.specs.Looks.{Heeds};
+ghost use Rattle.q_simplify.specs.Stops.{Closes, HasFallen, IsTurn, TurnsEndFrom, TurnsEndUntil};
 ghost use Rattle.q_simplify.specs.Logs.{LogGoesOn};
 
-use crate::alarm::Alarm;
 use crate::log_file::flush;
 use crate::options::Options;
 use crate::stop::Stop;
 use q_io::{DeviceError, Files};
 use q_kernel::Kernel;
-use q_logic::{Bounds, NoMemory};
-use q_sched::{Drive, Guide, Searches, Turn};
-use std::alloc::Global;
+use q_logic::NoMemory;
+use q_sched::{Alarm, Drive, Guide, Turn};
 
 // So many bytes of the log are pending before they are written.
 const PENDING: usize = 65_536;
 
-// What there is to say where an alarm rang: one round of searches tells whether any target is left.
-fn close(alloc: Global, kernel: &Kernel, bounds: &Bounds) -> Result<Stop, NoMemory>
+// What there is to say where an alarm rang. Whether a target is left would take a round of searches. A formula that has no literal is
+// decided, and then none is.
+fn close(kernel: &Kernel) -> Stop
     requires ready { IsReady kernel.now }
-    ensures { IfOk result (Closes bounds.now kernel.now) }
+    ensures { (B : Bounds) → Closes B kernel.now result }
 {
-    let mut searches = Searches::new(alloc);
-    match searches.find_any(kernel, bounds) {
-        Ok(Some(_)) => Ok(Stop::Spent),
-        Ok(None) => Ok(Stop::Settled),
-        Err(error) => Err(error),
+    if kernel.size() > 1 {
+        Stop::Stopped
+    } else {
+        Stop::Settled
     }
 }
 
+// Asks the alarm, and takes a turn where it does not ring.
+fn take_turn<A: Alarm>(
+    kernel: &mut Kernel,
+    drive: &mut Drive,
+    alarm: &mut A,
+) -> Result<Turn, NoMemory>
+    requires ready { IsReady kernel.old }
+    requires fit { IsFitFor kernel.old (learned drive.old) }
+    ensures turn { IfOk result (λ t. IsTurn t
+        (seen (λ b. (⟦<dyn Guide as Guide>⟧ b.vtable).asked b.value) (λ b.
+        (⟦<dyn Guide as Guide>⟧ b.vtable).last b.value) (λ b.
+        (⟦<dyn Guide as Guide>⟧ b.vtable).heard b.value) drive.old) kernel.old
+        (seen (λ b. (⟦<dyn Guide as Guide>⟧ b.vtable).asked b.value) (λ b.
+        (⟦<dyn Guide as Guide>⟧ b.vtable).last b.value) (λ b.
+        (⟦<dyn Guide as Guide>⟧ b.vtable).heard b.value) drive.new) kernel.new) }
+    ensures ready { IsReady kernel.new }
+    ensures fit { IsFitFor kernel.new (learned drive.new) }
+    ensures heeds { IfOk result (λ t.
+        Heeds t (view_alarm A.Alarm alarm.old) (view_alarm A.Alarm alarm.new)) }
+    ensures quiet { OnErr result
+        (IsQuiet (view_alarm A.Alarm alarm.old) (view_alarm A.Alarm alarm.new)) }
+    ensures asked { WasAsked (view_alarm A.Alarm alarm.old) (view_alarm A.Alarm alarm.new) }
+{
+    if alarm.rings(drive.left() > 0) {
+        return Ok(Turn::GaveWay);
+    }
+    drive.next_turn(kernel, alarm)
+}
+
 /// Takes turns until no target applies, the budget is spent or an alarm rings: guides are asked, and once none is left, the rules
-/// are searched. The alarm is asked before each turn.
+/// are searched. The alarm is asked before each turn, and within a search.
 pub(crate) fn take_turns<F: Files, A: Alarm>(
-    alloc: Global,
     files: &mut F,
     log: &str,
     kernel: &mut Kernel,
     drive: &mut Drive,
-    bounds: &Bounds,
     alarm: &mut A,
 ) -> Result<Stop, DeviceError>
     requires ready { IsReady kernel.old }
     requires fit { IsFitFor kernel.old (learned drive.old) }
-    requires drive { IsDriveOver bounds.now kernel.old
+    requires fell { HasFallen kernel.old
         (seen (λ b. (⟦<dyn Guide as Guide>⟧ b.vtable).asked b.value) (λ b.
         (⟦<dyn Guide as Guide>⟧ b.vtable).last b.value) (λ b.
         (⟦<dyn Guide as Guide>⟧ b.vtable).heard b.value) drive.old) }
@@ -65,14 +92,12 @@ pub(crate) fn take_turns<F: Files, A: Alarm>(
     ensures asked { WasAsked (view_alarm A.Alarm alarm.old) (view_alarm A.Alarm alarm.new) }
 {
     loop {
-        if alarm.rings(drive.left() > 0) {
-            return Ok(close(alloc, kernel, bounds)?);
-        }
-        match drive.next_turn(kernel)? {
+        match take_turn(kernel, drive, alarm)? {
             Turn::Moved => flush(files, log, kernel, PENDING)?,
             Turn::Asked => {}
             Turn::Settled => return Ok(Stop::Settled),
             Turn::Spent => return Ok(Stop::Spent),
+            Turn::GaveWay => return Ok(close(kernel)),
         }
     }
 }
@@ -99,15 +124,6 @@ pub(crate) fn follow<F: Files, A: Alarm>(
     ensures heard { IsHeard (view_alarm A.Alarm alarm.old) (view_alarm A.Alarm alarm.new) }
     ensures asked { WasAsked (view_alarm A.Alarm alarm.old) (view_alarm A.Alarm alarm.new) }
 {
-    let alloc = *guides.allocator();
     let mut drive = Drive::start(guides, options.bounds, options.budget, first);
-    take_turns(
-        alloc,
-        files,
-        log,
-        kernel,
-        &mut drive,
-        &options.bounds,
-        alarm,
-    )
+    take_turns(files, log, kernel, &mut drive, alarm)
 }

@@ -1,7 +1,6 @@
 //! A formula is simplified by the rules that there are, and each change goes into a log.
 #![tactic(auto)]
 
-mod alarm;
 mod driving;
 mod log_file;
 mod options;
@@ -10,7 +9,7 @@ mod report;
 mod stop;
 mod work;
 
-pub use alarm::{Alarm, Never};
 pub use options::Options;
+pub use q_sched::{Alarm, Never};
 pub use report::{Ending, Report};
 pub use work::simplify;

@@ -9,6 +9,8 @@ pub enum Ending {
     False,
     /// The budget is spent, and some target still applies.
     Spent,
+    /// An alarm rang. Whether a target still applies was not looked for.
+    Stopped,
 }
 
 /// How simplification ended, with the measures of the formula before and after.

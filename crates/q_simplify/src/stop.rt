@@ -5,4 +5,6 @@ pub(crate) enum Stop {
     Settled,
     /// Some target applies, and the budget is spent.
     Spent,
+    /// An alarm rang.
+    Stopped,
 }

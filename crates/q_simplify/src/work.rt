@@ -1,14 +1,13 @@
 // Simplification from the formula read to the files written.
-ghost use Rattle.std.specs.Prelude.{◌≡◌, ◌≢◌, ◌≤◌, ◌^◌, [], IfOk, OnOk, OnErr, IfSome, IsErrOf, ◌∷◌};
+ghost use Rattle.std.specs.Prelude.{◌≡◌, ◌≢◌, ◌⊎◌, ◌≤◌, ◌^◌, [], IfOk, OnOk, OnErr, IfSome, IsErrOf, ◌∷◌};
 ghost use Rattle.q_logic.specs.Prelude.{PrenexFormula, standard, IsInLimits, IsProper, measure_of};
 ghost use Rattle.q_io.specs.Files.{Disk, Empties, Later, RoseAmong, RoseFor};
 ghost use Rattle.q_kernel.specs.Prelude.{formula_in, IsReady};
 ghost use Rattle.q_simplify.specs.Logs.{LeavesLog};
-ghost use Rattle.q_simplify.specs.Results.{IsReportUntil, Leaves, LeadsTo, SimplifiesUntil, ends_as};
-ghost use Rattle.q_simplify.specs.Alarms.{IsHeard, WasAsked};
-ghost use Rattle.q_simplify.specs.AlarmViews.{view_alarm};
+ghost use Rattle.q_simplify.specs.Results.{IsReportUntil, Leaves, LeadsTo, LogStands, SimplifiesUntil, ends_as};
+ghost use Rattle.q_sched.specs.Alarms.{IsHeard, WasAsked};
+ghost use Rattle.q_sched.specs.AlarmViews.{view_alarm};
 
-use crate::alarm::Alarm;
 use crate::driving::follow;
 use crate::log_file::flush;
 use crate::options::Options;
@@ -19,7 +18,7 @@ use q_dimacs::written_within_limits_is_read;
 use q_io::{DeviceError, Files};
 use q_kernel::Kernel;
 use q_logic::{Bounds, Formula, NoMemory};
-use q_sched::Guide;
+use q_sched::{Alarm, Guide};
 use std::alloc::Global;
 
 // How it ended, by the clauses that are left.
@@ -28,6 +27,7 @@ fn ending_of(last: Stop, formula: &Formula) -> Ending
 {
     match last {
         Stop::Spent => Ending::Spent,
+        Stop::Stopped => Ending::Stopped,
         Stop::Settled => {
             if formula.clauses() == 0 {
                 Ending::True
@@ -136,10 +136,10 @@ fn reduce_formula<F: Files, A: Alarm>(
 }
 
 /// Simplifies the formula by the rules that there are: sweeps it, and takes one target after another until none
-/// applies, the budget is spent or the alarm rings, which is asked before each turn. Each change goes into the log, which is written
-/// in pieces; the formula that is left is written behind it, in pieces too. The formula is let go as soon as the kernel has its
-/// clauses. Where the alarm rang, all is as under a budget that is just spent, but where the given one is spent too or no target is
-/// left: then it is as under the given one.
+/// applies, the budget is spent or the alarm rings, which is asked before each turn and within long searches. Each change goes into the
+/// log, which is written in pieces; the formula that is left is written behind it, in pieces too. The formula is let go as soon as the
+/// kernel has its clauses. Where the alarm rang, the run is one whose budget is just spent, and whether a target is left is not looked
+/// for; but of a formula that is decided it says so.
 pub fn simplify<F: Files, A: Alarm>(
     alloc: Global,
     files: &mut F,
@@ -160,6 +160,10 @@ pub fn simplify<F: Files, A: Alarm>(
         Leaves formula output.now log.now before (F.held files.new))) }
     ensures cause { IsErrOf result DeviceError.Failed →
         RoseAmong F.write_faults (output.now ∷ log.now ∷ []) files.old files.new }
+    ensures cause_at { IsErrOf result DeviceError.Failed →
+        RoseFor F.write_faults log.now files.old files.new
+        ⊎ (IfSome (F.held files.old) (λ before. LogStands formula log.now (F.held files.new))
+        × RoseFor F.write_faults output.now files.old files.new) }
     ensures later { Later F.read_faults F.write_faults files.old files.new }
     ensures heard { IsHeard (view_alarm A.Alarm alarm.old) (view_alarm A.Alarm alarm.new) }
     ensures asked { OnOk result

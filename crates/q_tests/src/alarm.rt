@@ -1,12 +1,12 @@
 // The alarm of a row.
 ghost use Rattle.std.specs.Prelude.{◌≡◌, true, false};
-ghost use Rattle.q_simplify.specs.Alarms.{risen};
+ghost use Rattle.q_sched.specs.Alarms.{risen};
 
 use crate::trouble::Trouble;
 use q_simplify::Alarm;
 use std::alloc::Global;
 
-/// Rings before one turn, and in a plain run where no guide is left. It has no clock, and is only told the seconds.
+/// Rings where it is asked for the n-th time, and in a plain run where no guide is left. It has no clock, and is only told the seconds.
 #[derive(Drop)]
 pub struct RowAlarm {
     // None where it does not
@@ -18,7 +18,7 @@ pub struct RowAlarm {
 }
 
 impl RowAlarm {
-    /// Turns are counted from 0.
+    /// The times are counted from 0.
     pub(crate) fn new(turn: Option<u64>) -> RowAlarm {
         RowAlarm {
             turn,

@@ -12,6 +12,11 @@ use std::alloc::Global;
 /// The steps of a log that is none but steps.
 pub(crate) fn steps_of(alloc: Global, log: &[u8]) -> Result<Vec<Step>, Trouble> {
     let mut steps = Vec::new(alloc);
+    push_steps(alloc, &mut steps, log)?;
+    Ok(steps)
+}
+
+fn push_steps(alloc: Global, steps: &mut Vec<Step>, log: &[u8]) -> Result<(), Trouble> {
     let Ok(mut reader) = LogReader::new(alloc, 1_000_000_000) else {
         return Err(Trouble::NoMemory);
     };
@@ -22,7 +27,7 @@ pub(crate) fn steps_of(alloc: Global, log: &[u8]) -> Result<Vec<Step>, Trouble> 
             Err(_) => return Err(Trouble::Unreadable("steps")),
         }
     }
-    Ok(steps)
+    Ok(())
 }
 
 /// The answer to each step, one a line: taken, or the cause of its refusal.

@@ -28,7 +28,7 @@ pub struct Desk {
     failing_puts: Vec<u64>,
     is_alone: bool,
     guides: Vec<String>,
-    // the turn before which alarms ring
+    // where it is asked for this time, an alarm rings
     turn: Option<u64>,
     // that of the last command over memory
     alarm: RowAlarm,
@@ -87,7 +87,7 @@ impl Desk {
         Ok(())
     }
 
-    /// From now on the alarm of each command rings before this turn.
+    /// From now on the alarm of each command rings where it is asked for this time.
     pub(crate) fn ring(&mut self, turn: u64) {
         self.turn = Some(turn);
     }
@@ -101,59 +101,37 @@ impl Desk {
     pub(crate) fn run(&mut self, words: &[String]) -> Result<Said, Trouble> {
         let said = self.run_in_memory(words)?;
         if !self.is_alone {
-            self.run_steadily(words, &said)?;
-            self.run_trickling(words, &said)?;
+            self.run_again(words, &said)?;
         }
         Ok(said)
     }
 
     fn run_in_memory(&mut self, words: &[String]) -> Result<Said, Trouble> {
         let mut out = MemSink::new(self.alloc);
-        for nth in &self.failing_puts {
-            out.fail_at(*nth)?;
-        }
-        let mut alarm = RowAlarm::new(self.turn);
-        let status = guided(
-            self.alloc,
-            words,
-            &self.guides,
-            &mut self.memory,
-            &mut out,
-            &mut alarm,
-        )?;
-        self.alarm = alarm;
+        let status = self.run_into(words, &mut out)?;
         let line = Vec::from_slice(self.alloc, out.bytes())?;
         Ok(Said { status, line })
     }
 
-    fn run_steadily(&mut self, words: &[String], said: &Said) -> Result<(), Trouble> {
-        let mut out = SteadySink::new(self.alloc);
-        let mut alarm = RowAlarm::new(self.turn);
-        let status = guided(
+    fn run_into(&mut self, words: &[String], out: &mut MemSink) -> Result<Status, Trouble> {
+        for nth in &self.failing_puts {
+            out.fail_at(*nth)?;
+        }
+        self.alarm = RowAlarm::new(self.turn);
+        guided(
             self.alloc,
             words,
             &self.guides,
-            &mut self.steady,
-            &mut out,
-            &mut alarm,
-        )?;
-        compare(self.alloc, &said.line, out.bytes())?;
-        compare(self.alloc, &[said.status.code()], &[status.code()])
+            &mut self.memory,
+            out,
+            &mut self.alarm,
+        )
     }
 
-    fn run_trickling(&mut self, words: &[String], said: &Said) -> Result<(), Trouble> {
-        let mut out = MemSink::new(self.alloc);
-        let mut alarm = RowAlarm::new(self.turn);
-        let status = guided(
-            self.alloc,
-            words,
-            &self.guides,
-            &mut self.trickle,
-            &mut out,
-            &mut alarm,
-        )?;
-        compare(self.alloc, &said.line, out.bytes())?;
-        compare(self.alloc, &[said.status.code()], &[status.code()])
+    fn run_again(&mut self, words: &[String], said: &Said) -> Result<(), Trouble> {
+        let (alloc, turn) = (self.alloc, self.turn);
+        says_over(alloc, words, &self.guides, &mut self.steady, turn, said)?;
+        says_over(alloc, words, &self.guides, &mut self.trickle, turn, said)
     }
 
     /// Each device that serves holds the same under a name.
@@ -169,6 +147,22 @@ impl Desk {
     }
 }
 
+// Runs a command over other files, where it says the same.
+fn says_over<F: Files>(
+    alloc: Global,
+    words: &[String],
+    guides: &[String],
+    files: &mut F,
+    turn: Option<u64>,
+    said: &Said,
+) -> Result<(), Trouble> {
+    let mut out = SteadySink::new(alloc);
+    let mut alarm = RowAlarm::new(turn);
+    let status = guided(alloc, words, guides, files, &mut out, &mut alarm)?;
+    compare(alloc, &said.line, out.bytes())?;
+    compare(alloc, &[said.status.code()], &[status.code()])
+}
+
 // Runs a command with guides that are made for it: `GUIDE`, or `unextended GUIDE`.
 fn guided<F: Files, S: Sink>(
     alloc: Global,
@@ -180,11 +174,21 @@ fn guided<F: Files, S: Sink>(
 ) -> Result<Status, Trouble> {
     let mut boxes: Vec<Box<dyn Guide>> = Vec::new(alloc);
     for guide in guides {
-        let boxed: Box<dyn Guide> = match guide.as_str().strip_prefix("unextended ") {
-            Some(rest) => Box::new(alloc, Unextended::new(guide_of(alloc, rest)?))?,
-            None => Box::new(alloc, guide_of(alloc, guide.as_str())?)?,
+        let (text, is_unextended) = parts_of(guide.as_str());
+        let made = guide_of(alloc, text)?;
+        let boxed: Box<dyn Guide> = if is_unextended {
+            Box::new(alloc, Unextended::new(made))?
+        } else {
+            Box::new(alloc, made)?
         };
         boxes.push(boxed)?;
     }
     Ok(run(alloc, words, files, out, boxes, alarm))
+}
+
+fn parts_of(guide: &str) -> (&str, bool) {
+    match guide.strip_prefix("unextended ") {
+        Some(rest) => (rest, true),
+        None => (guide, false),
+    }
 }

@@ -15,6 +15,18 @@ struct Told {
 }
 
 impl Told {
+    fn note_all(&mut self, limit: u64, log: &[u8]) -> Result<(), Trouble>
+        requires { limit ≤ 2 ^ 62 }
+    {
+        let Ok(mut reader) = LogReader::new(self.alloc, limit) else {
+            return Err(Trouble::NoMemory);
+        };
+        for byte in log {
+            self.note(reader.push(*byte))?;
+        }
+        self.note(reader.finish())
+    }
+
     fn note(&mut self, answer: Result<Option<(u64, Step)>, LogError>) -> Result<(), Trouble> {
         if self.refusal.is_some() {
             return self.note_again(answer);
@@ -71,12 +83,6 @@ pub(crate) fn log_answer(alloc: Global, limit: u64, log: &[u8]) -> Result<Vec<u8
         text: Vec::new(alloc),
         refusal: None,
     };
-    let Ok(mut reader) = LogReader::new(alloc, limit) else {
-        return Err(Trouble::NoMemory);
-    };
-    for byte in log {
-        told.note(reader.push(*byte))?;
-    }
-    told.note(reader.finish())?;
+    told.note_all(limit, log)?;
     told.close()
 }

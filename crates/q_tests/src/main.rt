@@ -25,7 +25,7 @@ mod trouble;
 use q_io::{DeviceError, DiskFiles, Files, LAST_PLACE, Sink, StdSink};
 use std::process::ExitCode;
 use std::{env, io};
-use table::rows_of;
+use table::{Row, rows_of};
 use trouble::Trouble;
 
 /// How many rows there were, and how many of them do not pass.
@@ -75,15 +75,32 @@ fn play_table<S: Sink>(
     let Ok(table) = str::from_utf8(table) else {
         return Err(Trouble::Unreadable("a table that is text"));
     };
-    for row in rows_of(alloc, table)? {
-        let (passes, said) = row.play(alloc)?;
+    let rows = rows_of(alloc, table)?;
+    for row in &rows {
         tally.rows = tally.rows.saturating_add(1);
-        if !passes {
+        if !play_row(alloc, row, out)? {
             tally.wrong = tally.wrong.saturating_add(1);
         }
-        out.put(said.as_bytes())?;
     }
     Ok(tally)
+}
+
+// Whether the row passes.
+fn play_row<S: Sink>(alloc: std::alloc::Global, row: &Row, out: &mut S) -> Result<bool, Trouble> {
+    let (passes, said) = row.play(alloc)?;
+    out.put(said.as_bytes())?;
+    Ok(passes)
+}
+
+fn play_file<F: Files, S: Sink>(
+    alloc: std::alloc::Global,
+    name: &str,
+    files: &mut F,
+    out: &mut S,
+    tally: Tally,
+) -> Result<Tally, Trouble> {
+    let table = whole(alloc, files, name)?;
+    play_table(alloc, &table, out, tally)
 }
 
 // Whether the disk gives what was written to it.
@@ -99,28 +116,45 @@ fn keeps<F: Files>(
     Ok(held.as_slice() == b"abcdef".as_slice())
 }
 
-fn play_all(rt: &HostRuntime) -> Result<Tally, Trouble> {
-    let alloc = rt.alloc();
-    let mut files = DiskFiles::new(rt);
-    let mut out = StdSink::new(rt);
+// Plays all tables, and puts a last line.
+fn play_all<F: Files, S: Sink>(
+    alloc: std::alloc::Global,
+    names: &[String],
+    files: &mut F,
+    out: &mut S,
+) -> Result<Tally, Trouble> {
     let mut tally = Tally { rows: 0, wrong: 0 };
-    let Ok(words) = words(rt) else {
-        return Err(Trouble::Unreadable("names of tables"));
-    };
-    for name in words {
-        let table = whole(alloc, &mut files, name.as_str())?;
-        tally = play_table(alloc, &table, &mut out, tally)?;
+    for name in names {
+        tally = play_file(alloc, name.as_str(), files, out, tally)?;
     }
-    if !keeps(alloc, &mut files, "appended.txt")? {
+    if !keeps(alloc, files, "appended.txt")? {
         tally.wrong = tally.wrong.saturating_add(1);
     }
-    let said = format!(in alloc; "{} rows, {} wrong\n", tally.rows, tally.wrong)?;
-    out.put(said.as_bytes())?;
+    put_tally(alloc, out, tally)?;
     Ok(tally)
 }
 
+fn put_tally<S: Sink>(alloc: std::alloc::Global, out: &mut S, tally: Tally) -> Result<(), Trouble> {
+    let said = format!(in alloc; "{} rows, {} wrong\n", tally.rows, tally.wrong)?;
+    Ok(out.put(said.as_bytes())?)
+}
+
+// The devices stand here alone, so that each is let go once.
+fn play_on_disk(rt: &HostRuntime, names: &[String]) -> Result<Tally, Trouble> {
+    let mut files = DiskFiles::new(rt);
+    let mut out = StdSink::new(rt);
+    play_all(rt.alloc(), names, &mut files, &mut out)
+}
+
+fn played(rt: &HostRuntime) -> Result<Tally, Trouble> {
+    match words(rt) {
+        Ok(names) => play_on_disk(rt, &names),
+        Err(_) => Err(Trouble::Unreadable("names of tables")),
+    }
+}
+
 fn main(rt: HostRuntime) -> ExitCode {
-    match play_all(&rt) {
+    match played(&rt) {
         Ok(tally) if tally.wrong == 0 => ExitCode::SUCCESS,
         _ => ExitCode::FAILURE,
     }

@@ -57,6 +57,14 @@ fn digit(byte: u8) -> u8 {
     }
 }
 
+/// A number of a row.
+pub(crate) fn number(text: &str) -> Result<u32, Trouble> {
+    match text.parse::<u32>() {
+        Ok(number) => Ok(number),
+        Err(_) => Err(Trouble::Unreadable("a number")),
+    }
+}
+
 /// A text for a reader, close to what a row would write for these bytes.
 pub(crate) fn shown(alloc: Global, bytes: &[u8]) -> Result<String, Trouble> {
     let mut text = String::new(alloc);

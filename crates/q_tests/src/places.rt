@@ -1,11 +1,11 @@
 // Where the literals of a kernel stand once its dead words are gone.
+ghost use Rattle.q_kernel.specs.Prelude.{IsReady};
 
 use crate::formulas::push_lit;
-use crate::row_targets::RowTarget;
-use crate::taking::kernel_of;
+use crate::row_targets::{RowTarget, try_one};
 use crate::trouble::Trouble;
 use q_kernel::{ClauseId, Kernel};
-use q_logic::{Bounds, Formula, Lit};
+use q_logic::{Bounds, Lit};
 use std::alloc::Global;
 
 // No formula of a row has a greater variable.
@@ -15,14 +15,15 @@ const MOST: u32 = 1000;
 /// `-1 in 2, 3 in 0 2, 0 dead`.
 pub(crate) fn lists(
     alloc: Global,
-    formula: &Formula,
+    kernel: &mut Kernel,
     bounds: &Bounds,
     row_target: &RowTarget,
-) -> Result<String, Trouble> {
-    let mut kernel = kernel_of(alloc, formula)?;
-    let _ = row_target.try_one(alloc, &mut kernel, bounds)?;
+) -> Result<String, Trouble>
+    requires ready { IsReady kernel.old }
+{
+    let _ = try_one(alloc, kernel, &row_target.target, bounds)?;
     kernel.compact();
-    told(alloc, &kernel)
+    told(alloc, kernel)
 }
 
 fn told(alloc: Global, kernel: &Kernel) -> Result<String, Trouble> {
@@ -38,6 +39,10 @@ fn told(alloc: Global, kernel: &Kernel) -> Result<String, Trouble> {
 
 fn push_list(text: &mut String, kernel: &Kernel, lit: Lit) -> Result<(), Trouble> {
     let owners = owners_of(*text.allocator(), kernel, lit)?;
+    push_owners(text, lit, &owners)
+}
+
+fn push_owners(text: &mut String, lit: Lit, owners: &[ClauseId]) -> Result<(), Trouble> {
     if owners.is_empty() {
         return Ok(());
     }

@@ -9,19 +9,39 @@ use q_logic::{Formula, Limits};
 use std::alloc::Global;
 
 /// What reading a text answers: the canonical text of the formula, or a line that names the refusal.
-pub(crate) fn answer(alloc: Global, limits: Limits, text: &[u8]) -> Result<Vec<u8>, Trouble>
+pub(crate) fn read_answer(alloc: Global, limits: Limits, text: &[u8]) -> Result<Vec<u8>, Trouble>
     requires { AreModerate limits }
 {
     let whole = told(alloc, read(alloc, limits, text))?;
-    for size in [1, 7] {
-        let pieces = told(alloc, read_in_pieces(alloc, limits, text, size)?)?;
-        compare(alloc, &whole, &pieces)?;
-    }
-    if whole.first() == Some(&b'p') {
-        let again = told(alloc, read(alloc, limits, &whole))?;
-        compare(alloc, &whole, &again)?;
-    }
+    compare_pieces(alloc, limits, text, 1, &whole)?;
+    compare_pieces(alloc, limits, text, 7, &whole)?;
+    compare_again(alloc, limits, &whole)?;
     Ok(whole)
+}
+
+fn compare_pieces(
+    alloc: Global,
+    limits: Limits,
+    text: &[u8],
+    size: usize,
+    whole: &[u8],
+) -> Result<(), Trouble>
+    requires limits { AreModerate limits }
+    requires size { 1 ≤ size }
+{
+    let pieces = told(alloc, read_in_pieces(alloc, limits, text, size)?)?;
+    compare(alloc, whole, &pieces)
+}
+
+// The canonical text of a formula is read as the same formula.
+fn compare_again(alloc: Global, limits: Limits, whole: &[u8]) -> Result<(), Trouble>
+    requires { AreModerate limits }
+{
+    if whole.first() != Some(&b'p') {
+        return Ok(());
+    }
+    let again = told(alloc, read(alloc, limits, whole))?;
+    compare(alloc, whole, &again)
 }
 
 fn told(alloc: Global, answer: Result<Formula, ReadError>) -> Result<Vec<u8>, Trouble> {

@@ -1,5 +1,4 @@
-// The targets of the rules, as rows write them. A crate of rules is added here alone: an arm in each `match` below, and a
-// function that calls `find_one` of its search.
+// The targets of the rules, as rows write them, and how one is found or tried. All else of a target is told by `q_sched`.
 ghost use Rattle.q_kernel.specs.Prelude.{IsReady};
 
 use crate::trouble::Trouble;
@@ -10,11 +9,9 @@ use q_expand::Target as Expand;
 use q_kernel::{Kernel, Taken};
 use q_logic::{Bounds, Lit, NoMemory};
 use q_reduce::Target as Reduce;
-use q_rule::Rules;
-use q_sched::Move;
+use q_sched::{Group, Move, Searches};
 use q_subsume::Target as Subsume;
 use std::alloc::Global;
-use std::fmt;
 
 /// A target of one of the rules.
 #[derive(Clone, Copy)]
@@ -22,159 +19,60 @@ pub struct RowTarget {
     pub target: Move,
 }
 
-impl RowTarget {
-    /// The name of the crate whose target this is.
-    pub(crate) fn rules(&self) -> &'static str {
-        match self.target {
-            Move::Reduce(_) => "reduce",
-            Move::Subsume(_) => "subsume",
-            Move::Merge(_) => "equiv",
-            Move::Block(_) => "blocked",
-            Move::Eliminate(_) => "eliminate",
-            Move::Expand(_) => "expand",
-        }
-    }
-
-    /// Tries the target.
-    pub(crate) fn try_one(
-        &self,
-        alloc: Global,
-        kernel: &mut Kernel,
-        bounds: &Bounds,
-    ) -> Result<Taken, NoMemory>
-        requires ready { IsReady kernel.old }
-    {
-        match &self.target {
-            Move::Reduce(target) => q_reduce::Search::try_one(alloc, kernel, target, bounds),
-            Move::Subsume(target) => q_subsume::Search::try_one(alloc, kernel, target, bounds),
-            Move::Merge(target) => q_equiv::Search::try_one(alloc, kernel, target, bounds),
-            Move::Block(target) => q_blocked::Search::try_one(alloc, kernel, target, bounds),
-            Move::Eliminate(target) => q_eliminate::Search::try_one(alloc, kernel, target, bounds),
-            Move::Expand(target) => q_expand::Search::try_one(alloc, kernel, target, bounds),
-        }
-    }
+/// Tries a target, by searches of its own. They stand here alone, so that they are let go by one call.
+pub(crate) fn try_one(
+    alloc: Global,
+    kernel: &mut Kernel,
+    target: &Move,
+    bounds: &Bounds,
+) -> Result<Taken, NoMemory>
+    requires ready { IsReady kernel.old }
+{
+    let mut searches = Searches::new(alloc);
+    searches.take(kernel, target, bounds)
 }
 
-/// What a crate of rules finds from a place on.
+// The same for a search.
+fn search(
+    alloc: Global,
+    group: Group,
+    kernel: &Kernel,
+    bounds: &Bounds,
+    from: u32,
+) -> Result<Option<Move>, NoMemory>
+    requires ready { IsReady kernel.now }
+{
+    let mut searches = Searches::new(alloc);
+    searches.find(kernel, group, bounds, from)
+}
+
+/// What a group of rules finds from a place on.
 pub(crate) fn find(
     alloc: Global,
-    rules: &str,
+    group: Group,
     kernel: &Kernel,
     bounds: &Bounds,
     from: u32,
 ) -> Result<Option<RowTarget>, Trouble>
     requires ready { IsReady kernel.now }
 {
-    match rules {
-        "reduce" => find_reduce(alloc, kernel, bounds, from),
-        "subsume" => find_subsume(alloc, kernel, bounds, from),
-        "equiv" => find_merge(alloc, kernel, bounds, from),
-        "blocked" => find_block(alloc, kernel, bounds, from),
-        "eliminate" => find_eliminate(alloc, kernel, bounds, from),
-        "expand" => find_expand(alloc, kernel, bounds, from),
+    match search(alloc, group, kernel, bounds, from) {
+        Ok(Some(target)) => Ok(Some(RowTarget { target })),
+        Ok(None) => Ok(None),
+        Err(_) => Err(Trouble::NoMemory),
+    }
+}
+
+/// The group of rules that a row names.
+pub(crate) fn group_of(name: &str) -> Result<Group, Trouble> {
+    match name {
+        "reduce" => Ok(Group::Reduce),
+        "subsume" => Ok(Group::Subsume),
+        "equiv" => Ok(Group::Merge),
+        "blocked" => Ok(Group::Block),
+        "eliminate" => Ok(Group::Eliminate),
+        "expand" => Ok(Group::Expand),
         _ => Err(Trouble::Unreadable("a crate of rules")),
-    }
-}
-
-fn find_reduce(
-    alloc: Global,
-    kernel: &Kernel,
-    bounds: &Bounds,
-    from: u32,
-) -> Result<Option<RowTarget>, Trouble>
-    requires ready { IsReady kernel.now }
-{
-    match q_reduce::Search::find_one(alloc, kernel, bounds, from) {
-        Ok(Some(target)) => Ok(Some(RowTarget {
-            target: Move::Reduce(target),
-        })),
-        Ok(None) => Ok(None),
-        Err(_) => Err(Trouble::NoMemory),
-    }
-}
-
-fn find_subsume(
-    alloc: Global,
-    kernel: &Kernel,
-    bounds: &Bounds,
-    from: u32,
-) -> Result<Option<RowTarget>, Trouble>
-    requires ready { IsReady kernel.now }
-{
-    match q_subsume::Search::find_one(alloc, kernel, bounds, from) {
-        Ok(Some(target)) => Ok(Some(RowTarget {
-            target: Move::Subsume(target),
-        })),
-        Ok(None) => Ok(None),
-        Err(_) => Err(Trouble::NoMemory),
-    }
-}
-
-fn find_merge(
-    alloc: Global,
-    kernel: &Kernel,
-    bounds: &Bounds,
-    from: u32,
-) -> Result<Option<RowTarget>, Trouble>
-    requires ready { IsReady kernel.now }
-{
-    match q_equiv::Search::find_one(alloc, kernel, bounds, from) {
-        Ok(Some(target)) => Ok(Some(RowTarget {
-            target: Move::Merge(target),
-        })),
-        Ok(None) => Ok(None),
-        Err(_) => Err(Trouble::NoMemory),
-    }
-}
-
-fn find_block(
-    alloc: Global,
-    kernel: &Kernel,
-    bounds: &Bounds,
-    from: u32,
-) -> Result<Option<RowTarget>, Trouble>
-    requires ready { IsReady kernel.now }
-{
-    match q_blocked::Search::find_one(alloc, kernel, bounds, from) {
-        Ok(Some(target)) => Ok(Some(RowTarget {
-            target: Move::Block(target),
-        })),
-        Ok(None) => Ok(None),
-        Err(_) => Err(Trouble::NoMemory),
-    }
-}
-
-fn find_eliminate(
-    alloc: Global,
-    kernel: &Kernel,
-    bounds: &Bounds,
-    from: u32,
-) -> Result<Option<RowTarget>, Trouble>
-    requires ready { IsReady kernel.now }
-{
-    match q_eliminate::Search::find_one(alloc, kernel, bounds, from) {
-        Ok(Some(target)) => Ok(Some(RowTarget {
-            target: Move::Eliminate(target),
-        })),
-        Ok(None) => Ok(None),
-        Err(_) => Err(Trouble::NoMemory),
-    }
-}
-
-fn find_expand(
-    alloc: Global,
-    kernel: &Kernel,
-    bounds: &Bounds,
-    from: u32,
-) -> Result<Option<RowTarget>, Trouble>
-    requires ready { IsReady kernel.now }
-{
-    match q_expand::Search::find_one(alloc, kernel, bounds, from) {
-        Ok(Some(target)) => Ok(Some(RowTarget {
-            target: Move::Expand(target),
-        })),
-        Ok(None) => Ok(None),
-        Err(_) => Err(Trouble::NoMemory),
     }
 }
 
@@ -268,44 +166,5 @@ pub(crate) fn lit(number: i64) -> Result<Lit, Trouble> {
     match u32::try_from(number.unsigned_abs()) {
         Ok(var) if 1 <= var && var <= 2_147_483_647 => Ok(Lit::new(var, number < 0)),
         _ => Err(Trouble::Unreadable("a literal")),
-    }
-}
-
-impl fmt::Display for RowTarget {
-    fn fmt<W: fmt::Write>(&self, f: &mut fmt::Formatter<W>) -> fmt::Result {
-        match &self.target {
-            Move::Reduce(target) => show_reduce(f, target),
-            Move::Subsume(target) => show_subsume(f, target),
-            Move::Merge(Merge::Merge { keep, gone }) => {
-                write!(f, "merge {} {}", keep.number(), gone.number())
-            }
-            Move::Block(target) => show_block(f, target),
-            Move::Eliminate(Eliminate::Eliminate { x }) => write!(f, "eliminate {x}"),
-            Move::Expand(Expand::Expand { u }) => write!(f, "expand {u}"),
-        }
-    }
-}
-
-fn show_reduce<W: fmt::Write>(f: &mut fmt::Formatter<W>, target: &Reduce) -> fmt::Result {
-    match target {
-        Reduce::Tautology { c } => write!(f, "tautology {c}"),
-        Reduce::Unit { c } => write!(f, "unit {c}"),
-        Reduce::Cut { c, l } => write!(f, "cut {c} {}", l.number()),
-        Reduce::Pure { l } => write!(f, "pure {}", l.number()),
-    }
-}
-
-fn show_subsume<W: fmt::Write>(f: &mut fmt::Formatter<W>, target: &Subsume) -> fmt::Result {
-    match target {
-        Subsume::Subsumed { c, d } => write!(f, "subsumed {c} {d}"),
-        Subsume::Strengthen { c, d, l } => write!(f, "strengthen {c} {d} {}", l.number()),
-    }
-}
-
-fn show_block<W: fmt::Write>(f: &mut fmt::Formatter<W>, target: &Block) -> fmt::Result {
-    match target {
-        Block::Blocked { c, l } => write!(f, "blocked {c} {}", l.number()),
-        Block::BlockedForall { c, l } => write!(f, "blocked-forall {c} {}", l.number()),
-        Block::Cover { c } => write!(f, "cover {c}"),
     }
 }

@@ -7,11 +7,9 @@ use crate::desk::{Desk, Said};
 use crate::formulas::{formula_of, formula_text};
 use crate::implying::implied;
 use crate::logging::log_answer;
-use crate::notation::{bytes_of, compare};
-use crate::places::lists;
-use crate::reading::answer;
-use crate::row_targets::row_target_of;
-use crate::taking::{figures, found, outcome, proposals};
+use crate::notation::{bytes_of, compare, number};
+use crate::reading::read_answer;
+use crate::taking::answer;
 use crate::trouble::Trouble;
 use q_io::Call;
 use q_logic::{Bounds, Formula, Limits};
@@ -29,10 +27,11 @@ pub struct Stage {
 
 impl Stage {
     pub(crate) fn new(alloc: Global) -> Result<Stage, Trouble> {
+        let formula = formula_of(alloc, "nothing")?;
         Ok(Stage {
             alloc,
             desk: Desk::new(alloc),
-            formula: formula_of(alloc, "nothing")?,
+            formula,
             limits: Limits::standard(),
             bounds: Bounds::usual(),
         })
@@ -53,15 +52,28 @@ impl Stage {
     fn give(&mut self, line: &str) -> Result<(), Trouble> {
         let (first, rest) = line.split_once(' ').unwrap_or((line, ""));
         match first {
-            "formula" => self.formula = formula_of(self.alloc, rest)?,
-            "limits" => self.limits = limits_of(rest)?,
-            "bounds" => self.bounds = bounds_of(rest)?,
-            "fault" => self.plan(rest)?,
+            "formula" | "limits" | "bounds" => self.set(first, rest),
+            "fault" => self.plan(rest),
+            "memory" | "ring" => self.prepare(first, rest),
+            "guide" => self.desk.guide(1, rest),
+            "guides" => self.guides(rest),
+            _ => self.put(first, rest),
+        }
+    }
+
+    fn set(&mut self, what: &str, text: &str) -> Result<(), Trouble> {
+        match what {
+            "formula" => self.formula = formula_of(self.alloc, text)?,
+            "limits" => self.limits = limits_of(text)?,
+            _ => self.bounds = bounds_of(text)?,
+        }
+        Ok(())
+    }
+
+    fn prepare(&mut self, what: &str, turn: &str) -> Result<(), Trouble> {
+        match what {
             "memory" => self.desk.stand_alone(),
-            "guide" => self.desk.guide(1, rest)?,
-            "guides" => self.guides(rest)?,
-            "ring" => self.desk.ring(u64::from(number(rest)?)),
-            _ => self.put(first, rest)?,
+            _ => self.desk.ring(u64::from(number(turn)?)),
         }
         Ok(())
     }
@@ -139,8 +151,7 @@ impl Stage {
             "run" => self.run(rest, wanted),
             "show" => self.show(rest, wanted),
             "alarm" => self.alarm(wanted),
-            "read" | "log" => self.read(verb, rest, wanted),
-            "steps" | "undo" => self.check(verb, rest, wanted),
+            "read" | "log" | "steps" | "undo" => self.read(verb, rest, wanted),
             _ => self.apply(verb, rest, wanted),
         }
     }
@@ -183,9 +194,13 @@ impl Stage {
                 Some(_) => Err(Trouble::Unreadable("a file that is not held")),
             };
         }
-        let wanted = self.text(wanted)?;
         let got = self.held(name)?;
-        compare(self.alloc, &wanted, &got)
+        self.compare_text(wanted, &got)
+    }
+
+    fn compare_text(&self, wanted: &str, got: &[u8]) -> Result<(), Trouble> {
+        let wanted = self.text(wanted)?;
+        compare(self.alloc, &wanted, got)
     }
 
     // How often the alarm of the last command was asked and rang, and what it was set to.
@@ -194,64 +209,36 @@ impl Stage {
         compare(self.alloc, wanted.as_bytes(), got.as_bytes())
     }
 
-    fn read(&mut self, verb: &str, text: &str, wanted: &str) -> Result<(), Trouble> {
+    // A text that is read, or steps on the formula: wanted is the answer, or the undo list of a run to `nothing`.
+    fn read(&self, verb: &str, text: &str, wanted: &str) -> Result<(), Trouble> {
         let bytes = self.text(text)?;
-        let wanted = self.text(wanted)?;
         let got = self.reading_of(verb, &bytes)?;
-        compare(self.alloc, &wanted, &got)
+        self.compare_text(wanted, &got)
     }
 
     fn reading_of(&self, verb: &str, bytes: &[u8]) -> Result<Vec<u8>, Trouble> {
+        if verb == "undo" {
+            return undo_list(self.alloc, &self.formula, bytes);
+        }
         let limits = moderate(self.limits)?;
         match verb {
-            "read" => answer(self.alloc, limits, bytes),
-            _ => log_answer(self.alloc, limits.bytes, bytes),
+            "read" => read_answer(self.alloc, limits, bytes),
+            "log" => log_answer(self.alloc, limits.bytes, bytes),
+            _ => answers(self.alloc, &self.formula, limits, bytes),
         }
     }
 
-    // Steps on the formula, and wanted the answer to each, or the undo list of a run to `nothing`.
-    fn check(&mut self, verb: &str, steps: &str, wanted: &str) -> Result<(), Trouble> {
-        let log = self.text(steps)?;
-        let wanted = self.text(wanted)?;
-        let got = self.checked(verb, &log)?;
-        compare(self.alloc, &wanted, &got)
-    }
-
-    fn checked(&self, verb: &str, log: &[u8]) -> Result<Vec<u8>, Trouble> {
-        match verb {
-            "steps" => answers(self.alloc, &self.formula, moderate(self.limits)?, log),
-            _ => undo_list(self.alloc, &self.formula, log),
-        }
-    }
-
-    fn apply(&mut self, verb: &str, rest: &str, wanted: &str) -> Result<(), Trouble> {
+    fn apply(&self, verb: &str, rest: &str, wanted: &str) -> Result<(), Trouble> {
         let got = self.applied(verb, rest)?;
         let wanted = same_order(self.alloc, wanted)?;
         compare(self.alloc, wanted.as_bytes(), got.as_bytes())
     }
 
     fn applied(&self, verb: &str, rest: &str) -> Result<String, Trouble> {
-        let bounds = &self.bounds;
         match verb {
-            "take" => self.take(rest, bounds),
-            "find" => self.find(rest, bounds),
-            "lists" => lists(self.alloc, &self.formula, bounds, &row_target_of(rest)?),
-            "figures" => figures(self.alloc, &self.formula, bounds),
             "implied" => implied(self.alloc, &self.formula, rest),
-            "ask" => proposals(self.alloc, &self.formula, rest),
-            _ => Err(Trouble::Unreadable("a verb")),
+            _ => answer(self.alloc, &self.formula, &self.bounds, verb, rest),
         }
-    }
-
-    fn take(&self, target: &str, bounds: &Bounds) -> Result<String, Trouble> {
-        let row_target = row_target_of(target)?;
-        outcome(self.alloc, &self.formula, bounds, &row_target)
-    }
-
-    fn find(&self, from: &str, bounds: &Bounds) -> Result<String, Trouble> {
-        let (name, from) = from.split_once(" from ").unwrap_or((from, "0"));
-        let from = number(from)?;
-        found(self.alloc, &self.formula, bounds, name, from)
     }
 }
 
@@ -263,13 +250,6 @@ fn same_order(alloc: Global, wanted: &str) -> Result<String, Trouble> {
     let formula = formula_of(alloc, text)?;
     let text = formula_text(alloc, &formula)?;
     Ok(format!(in alloc; "yes {text}")?)
-}
-
-fn number(text: &str) -> Result<u32, Trouble> {
-    match text.parse::<u32>() {
-        Ok(number) => Ok(number),
-        Err(_) => Err(Trouble::Unreadable("a number")),
-    }
 }
 
 // The words of a command, divided by spaces.

@@ -14,14 +14,24 @@ pub struct Row<'a> {
 pub(crate) fn rows_of<'a>(alloc: Global, table: &'a str) -> Result<Vec<Row<'a>>, Trouble> {
     let mut rows = Vec::new(alloc);
     for (at, line) in table.lines().enumerate() {
-        if let Some(name) = line.strip_prefix("row ") {
-            let lines = Vec::new(alloc);
-            rows.push(Row { name, lines })?;
-        } else if !line.is_empty() && !line.starts_with('#') {
-            push_line(&mut rows, at, line)?;
-        }
+        take_line(alloc, &mut rows, at, line)?;
     }
     Ok(rows)
+}
+
+fn take_line<'a>(
+    alloc: Global,
+    rows: &mut Vec<Row<'a>>,
+    at: usize,
+    line: &'a str,
+) -> Result<(), Trouble> {
+    if let Some(name) = line.strip_prefix("row ") {
+        let lines = Vec::new(alloc);
+        rows.push(Row { name, lines })?;
+    } else if !line.is_empty() && !line.starts_with('#') {
+        push_line(rows, at, line)?;
+    }
+    Ok(())
 }
 
 fn push_line<'a>(rows: &mut Vec<Row<'a>>, at: usize, line: &'a str) -> Result<(), Trouble> {
@@ -35,10 +45,13 @@ fn push_line<'a>(rows: &mut Vec<Row<'a>>, at: usize, line: &'a str) -> Result<()
 impl Row<'_> {
     // The first line that does not pass, and why.
     fn first_miss(&self, alloc: Global) -> Option<(usize, Trouble)> {
-        let mut stage = match Stage::new(alloc) {
-            Ok(stage) => stage,
-            Err(trouble) => return Some((0, trouble)),
-        };
+        match Stage::new(alloc) {
+            Ok(mut stage) => self.first_miss_on(&mut stage),
+            Err(trouble) => Some((0, trouble)),
+        }
+    }
+
+    fn first_miss_on(&self, stage: &mut Stage) -> Option<(usize, Trouble)> {
         for (at, line) in &self.lines {
             if let Err(trouble) = stage.play(line) {
                 return Some((*at, trouble));

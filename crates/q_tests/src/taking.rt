@@ -1,11 +1,13 @@
-// One target of a rule on a formula.
-ghost use Rattle.std.specs.Prelude.{IfOk};
+// What rows ask of a kernel that holds their formula.
+ghost use Rattle.std.specs.Prelude.{OnOk};
 ghost use Rattle.q_kernel.specs.Prelude.{IsReady};
 
 use crate::checking::audit;
 use crate::formulas::formula_text;
 use crate::guides::{RowGuide, guide_of};
-use crate::row_targets::{RowTarget, find};
+use crate::notation::number;
+use crate::places::lists;
+use crate::row_targets::{RowTarget, find, group_of, row_target_of, try_one};
 use crate::trouble::Trouble;
 use q_kernel::{Kernel, Taken};
 use q_logic::{Bounds, Formula};
@@ -13,32 +15,79 @@ use q_sched::{Guide, Move, Proposal};
 use std::alloc::Global;
 use std::fmt;
 
-/// A kernel that is swept and within the limits.
-pub(crate) fn kernel_of(alloc: Global, formula: &Formula) -> Result<Kernel, Trouble>
-    ensures { IfOk result (λ k. IsReady k) }
-{
+/// The answer to a question on a formula. The kernel stands in this function alone, so that it is let go by one call.
+pub(crate) fn answer(
+    alloc: Global,
+    formula: &Formula,
+    bounds: &Bounds,
+    verb: &str,
+    rest: &str,
+) -> Result<String, Trouble> {
     if formula.clauses() > 1000 {
         return Err(Trouble::Unreadable("a formula of few clauses"));
     }
     let mut kernel = Kernel::start(alloc, formula)?;
+    answer_of(alloc, formula, &mut kernel, bounds, verb, rest)
+}
+
+fn answer_of(
+    alloc: Global,
+    formula: &Formula,
+    kernel: &mut Kernel,
+    bounds: &Bounds,
+    verb: &str,
+    rest: &str,
+) -> Result<String, Trouble> {
+    if verb == "figures" {
+        return figures(alloc, kernel, bounds);
+    }
+    make_ready(kernel)?;
+    ready_answer(alloc, formula, kernel, bounds, verb, rest)
+}
+
+// Sweeps the kernel, so that it is ready where the formula is small.
+fn make_ready(kernel: &mut Kernel) -> Result<(), Trouble>
+    ensures { OnOk result (IsReady kernel.new) }
+{
     kernel.sweep()?;
     if kernel.greatest_var() > 1000 || kernel.clauses() > 1000 || kernel.size() > 10_000 {
         return Err(Trouble::Unreadable("a small formula"));
     }
-    Ok(kernel)
+    Ok(())
 }
 
-/// What becomes of a target: `no`, and the formula is as it was, or `yes` and the formula then. The log is a run there, and the
-/// rule's search finds something where the answer is yes.
-pub(crate) fn outcome(
+fn ready_answer(
     alloc: Global,
     formula: &Formula,
+    kernel: &mut Kernel,
+    bounds: &Bounds,
+    verb: &str,
+    rest: &str,
+) -> Result<String, Trouble>
+    requires ready { IsReady kernel.old }
+{
+    match verb {
+        "take" => outcome(alloc, formula, kernel, bounds, &row_target_of(rest)?),
+        "lists" => lists(alloc, kernel, bounds, &row_target_of(rest)?),
+        "find" => found(alloc, kernel, bounds, rest),
+        "ask" => proposals(alloc, kernel, rest),
+        _ => Err(Trouble::Unreadable("a verb")),
+    }
+}
+
+// What becomes of a target: `no`, and the formula is as it was, or `yes` and the formula then. The log is a run there, and the
+// rule's search finds something where the answer is yes.
+fn outcome(
+    alloc: Global,
+    formula: &Formula,
+    kernel: &mut Kernel,
     bounds: &Bounds,
     row_target: &RowTarget,
-) -> Result<String, Trouble> {
-    let mut kernel = kernel_of(alloc, formula)?;
-    let is_found = find(alloc, row_target.rules(), &kernel, bounds, 0)?.is_some();
-    let said = tried(alloc, formula, &mut kernel, bounds, row_target)?;
+) -> Result<String, Trouble>
+    requires ready { IsReady kernel.old }
+{
+    let is_found = find(alloc, row_target.target.group(), kernel, bounds, 0)?.is_some();
+    let said = tried(alloc, formula, kernel, bounds, &row_target.target)?;
     if !is_found && said.as_str() != "no" {
         return Err(Trouble::Unreadable("a target that is found"));
     }
@@ -50,12 +99,12 @@ fn tried(
     formula: &Formula,
     kernel: &mut Kernel,
     bounds: &Bounds,
-    row_target: &RowTarget,
+    target: &Move,
 ) -> Result<String, Trouble>
     requires ready { IsReady kernel.old }
 {
     let before = held(alloc, formula, kernel)?;
-    let taken = row_target.try_one(alloc, kernel, bounds)?;
+    let taken = try_one(alloc, kernel, target, bounds)?;
     let after = compacted(alloc, formula, kernel)?;
     told(alloc, taken, &before, &after)
 }
@@ -95,31 +144,30 @@ fn compacted(alloc: Global, formula: &Formula, kernel: &mut Kernel) -> Result<St
     Ok(after)
 }
 
-/// What a crate of rules finds from a place on: a target, or `none`.
-pub(crate) fn found(
-    alloc: Global,
-    formula: &Formula,
-    bounds: &Bounds,
-    rules: &str,
-    from: u32,
-) -> Result<String, Trouble> {
-    let kernel = kernel_of(alloc, formula)?;
-    let row_target = find(alloc, rules, &kernel, bounds, from)?;
+// What a group of rules finds, `GROUP` or `GROUP from PLACE`: a target, or `none`.
+fn found(alloc: Global, kernel: &Kernel, bounds: &Bounds, text: &str) -> Result<String, Trouble>
+    requires ready { IsReady kernel.now }
+{
+    let (name, from) = text.split_once(" from ").unwrap_or((text, "0"));
+    let group = group_of(name)?;
+    let from = number(from)?;
+    let row_target = find(alloc, group, kernel, bounds, from)?;
     name_of(alloc, row_target)
 }
 
 fn name_of(alloc: Global, row_target: Option<RowTarget>) -> Result<String, Trouble> {
     match row_target {
-        Some(row_target) => Ok(format!(in alloc; "{row_target}")?),
+        Some(RowTarget { target }) => Ok(format!(in alloc; "{target}")?),
         None => Ok(String::from_str(alloc, "none")?),
     }
 }
 
-/// What a guide proposes for a formula, one proposal after the other, each of which is told as refused.
-pub(crate) fn proposals(alloc: Global, formula: &Formula, guide: &str) -> Result<String, Trouble> {
-    let kernel = kernel_of(alloc, formula)?;
+// What a guide proposes for a formula, one proposal after the other, each of which is told as refused.
+fn proposals(alloc: Global, kernel: &Kernel, guide: &str) -> Result<String, Trouble>
+    requires { IsReady kernel.now }
+{
     let mut guide = guide_of(alloc, guide)?;
-    proposed(alloc, &kernel, &mut guide)
+    proposed(alloc, kernel, &mut guide)
 }
 
 fn proposed(alloc: Global, kernel: &Kernel, guide: &mut RowGuide) -> Result<String, Trouble>
@@ -141,12 +189,12 @@ fn proposed(alloc: Global, kernel: &Kernel, guide: &mut RowGuide) -> Result<Stri
 }
 
 fn push_target(text: &mut String, target: Move) -> Result<(), Trouble> {
-    write!(text, "{}, ", RowTarget { target })?;
+    write!(text, "{target}, ")?;
     Ok(())
 }
 
-/// What the kernel counts.
-#[derive(Drop)]
+// What the kernel counts.
+#[derive(Clone, Copy)]
 struct Counts {
     clauses: usize,
     size: usize,
@@ -170,16 +218,8 @@ fn counts_of(kernel: &Kernel, bounds: &Bounds) -> Counts {
     }
 }
 
-/// The figures of a formula as it stands.
-pub(crate) fn figures(
-    alloc: Global,
-    formula: &Formula,
-    bounds: &Bounds,
-) -> Result<String, Trouble> {
-    if formula.clauses() > 1000 {
-        return Err(Trouble::Unreadable("a formula of few clauses"));
-    }
-    let kernel = Kernel::start(alloc, formula)?;
-    let counts = counts_of(&kernel, bounds);
+// The figures of a formula as it stands.
+fn figures(alloc: Global, kernel: &Kernel, bounds: &Bounds) -> Result<String, Trouble> {
+    let counts = counts_of(kernel, bounds);
     Ok(format!(in alloc; "{counts}")?)
 }

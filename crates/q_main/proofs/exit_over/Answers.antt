@@ -4,7 +4,7 @@ use Rattle.std.specs.declared.alloc.Global.{Global}
 use Rattle.std.specs.declared.string.String.{String}
 use Rattle.q_app.specs.Operands.{texts}
 use Rattle.q_command.specs.Devices.{devices}
-use Rattle.q_simplify.specs.AlarmViews.{view_alarm}
+use Rattle.q_sched.specs.AlarmViews.{view_alarm}
 use Rattle.q_main.specs.Exits.{DoesWith}
 use Rattle.q_main.proofs.exit_over.Goals as goal
 

@@ -1,5 +1,5 @@
 use Rattle.std.proofs.Common.{refl}
-use Rattle.q_simplify.specs.AlarmViews.{view_alarm}
+use Rattle.q_sched.specs.AlarmViews.{view_alarm}
 use Rattle.q_command.specs.Devices.{devices}
 use Rattle.q_app.proofs.CommandLines.{said-usage}
 use Rattle.q_app.proofs.StoppedRequests.{alarm-nothing, alarm-said, keeps-nothing, keeps-until, until-usage}

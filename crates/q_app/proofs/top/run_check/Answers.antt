@@ -14,6 +14,7 @@ returns-clause-runs g c =
     (devices g.F.Files g.S.Sink c.args.files.now c.args.out.now) (devices g.F.Files g.S.Sink c.check.new.files c.say.new.out)
     c.say.result c.check.ensures.checks c.say.ensures
     (λ e. c.check.ensures.fault (check-read o e)) (λ e. absurd (check-write o e)) c.check.ensures.only_reads.same
+    (λ e. c.check.ensures.fault_at (check-read o e)) (λ e. absurd (check-write o e))
 
 pub returns-clause-later : goal.returns-clause-later
 returns-clause-later g c = record { read = c.check.ensures.only_reads.later.read; write = c.check.ensures.only_reads.later.write; sink = c.say.ensures.later.0 }

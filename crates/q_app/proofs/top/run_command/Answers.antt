@@ -1,5 +1,5 @@
 use Rattle.std.proofs.Common.{ap}
-use Rattle.q_simplify.specs.AlarmViews.{view_alarm}
+use Rattle.q_sched.specs.AlarmViews.{view_alarm}
 use Rattle.q_app.specs.Commands.{commands_of}
 use Rattle.q_app.proofs.StoppedRequests.{alarm-heard, alarm-left, as-asked, simplifies-so}
 use Rattle.q_app.proofs.top.run_command.Goals as goal

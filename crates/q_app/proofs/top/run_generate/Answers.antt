@@ -1,3 +1,5 @@
+use Rattle.std.proofs.Common.{inl}
+use Rattle.q_command.proofs.FaultTurns.{at_once}
 use Rattle.q_app.specs.Words.{generating}
 use Rattle.q_app.proofs.CommandLines.{generate-read, generate-write}
 use Rattle.q_command.specs.Devices.{devices}
@@ -13,6 +15,7 @@ returns-clause-runs g c =
     (devices g.F.Files g.S.Sink c.args.files.now c.args.out.now) (devices g.F.Files g.S.Sink c.generate_file.new.files c.say.new.out)
     c.say.result c.generate_file.ensures.generates c.say.ensures
     (λ e. absurd (generate-read o e)) (λ e. c.generate_file.ensures.write_fault (generate-write o e)) tt
+    (λ e. absurd (generate-read o e)) (λ e. inl (at_once (g.F.Files.held c.args.files.now), c.generate_file.ensures.write_fault (generate-write o e)))
 
 pub returns-clause-later : goal.returns-clause-later
 returns-clause-later g c = record { read = c.generate_file.ensures.later.read; write = c.generate_file.ensures.later.write; sink = c.say.ensures.later.0 }

@@ -1,3 +1,5 @@
+use Rattle.std.proofs.Common.{inl}
+use Rattle.q_command.proofs.FaultTurns.{at_once}
 use Rattle.q_app.specs.Commands.{five_of}
 use Rattle.q_app.specs.Words.{rebuilding}
 use Rattle.q_app.proofs.CommandLines.{rebuild-read, rebuild-write}
@@ -14,3 +16,4 @@ returns g c =
     (devices g.F.Files g.S.Sink c.args.files.now c.args.out.now) (devices g.F.Files g.S.Sink c.rebuild_files.new.files c.say.new.out)
     c.say.result c.rebuild_files.ensures.rebuilds c.say.ensures
     (λ e. c.rebuild_files.ensures.read_fault (rebuild-read o e)) (λ e. c.rebuild_files.ensures.write_fault (rebuild-write o e)) tt
+    (λ e. c.rebuild_files.ensures.read_fault_at (rebuild-read o e)) (λ e. inl (at_once (g.F.Files.held c.args.files.now), c.rebuild_files.ensures.write_fault (rebuild-write o e)))

@@ -14,3 +14,4 @@ returns g c =
     (devices g.F.Files g.S.Sink c.args.files.now c.args.out.now) (devices g.F.Files g.S.Sink c.check_part.new.files c.say.new.out)
     c.say.result c.check_part.ensures.checks c.say.ensures
     (λ e. c.check_part.ensures.fault (check-read o e)) (λ e. absurd (check-write o e)) c.check_part.ensures.only_reads.same
+    (λ e. c.check_part.ensures.fault_at (check-read o e)) (λ e. absurd (check-write o e))

@@ -1,7 +1,7 @@
 use Rattle.std.proofs.Common.{refl, false, None}
-use Rattle.q_simplify.specs.Alarms.{AlarmView}
+use Rattle.q_sched.specs.Alarms.{AlarmView}
 use Rattle.q_command.specs.Devices.{devices}
-use Rattle.q_app.proofs.StoppedFiles.{silent}
+use Rattle.q_sched.proofs.AlarmTurns.{silent}
 use Rattle.q_app.proofs.StoppedRequests.{keeps-whole}
 use Rattle.q_app.proofs.top.run_whole.Goals as goal
 

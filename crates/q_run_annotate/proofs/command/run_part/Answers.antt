@@ -1,4 +1,6 @@
+use Rattle.std.proofs.Common.{inl}
 use Rattle.q_command.specs.Devices.{devices}
+use Rattle.q_command.proofs.FaultTurns.{at_once}
 use Rattle.q_command.proofs.ToldLaws.{runs}
 use Rattle.q_run_annotate.specs.Annotates.{files_of}
 use Rattle.q_run_annotate.specs.AnnotatedParts.{told}
@@ -11,3 +13,4 @@ returns g c =
     (devices g.F.Files g.S.Sink c.args.files.now c.args.out.now) (devices g.F.Files g.S.Sink c.annotate_part.new.files c.say.new.out)
     c.say.result c.annotate_part.ensures.annotates c.say.ensures
     c.annotate_part.ensures.read_fault c.annotate_part.ensures.write_fault tt
+    c.annotate_part.ensures.read_fault_at (λ e. inl (at_once (g.F.Files.held c.args.files.now), c.annotate_part.ensures.write_fault e))

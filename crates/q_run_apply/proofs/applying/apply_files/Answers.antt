@@ -13,6 +13,9 @@ returns-in-Ok-write_output-clause-applies g c =
 pub returns-in-Ok-write_output-clause-read_fault : goal.returns-in-Ok-write_output-clause-read_fault
 returns-in-Ok-write_output-clause-read_fault g c e = absurd ((written-no-fault c.in-Ok.reached.steps c.in-Ok.reached.broken c.written.result c.written.ensures).0 e)
 
+pub returns-in-Ok-write_output-clause-read_fault_at : goal.returns-in-Ok-write_output-clause-read_fault_at
+returns-in-Ok-write_output-clause-read_fault_at g c e = absurd ((written-no-fault c.in-Ok.reached.steps c.in-Ok.reached.broken c.written.result c.written.ensures).0 e)
+
 pub returns-in-Ok-write_output-clause-write_fault : goal.returns-in-Ok-write_output-clause-write_fault
 returns-in-Ok-write_output-clause-write_fault g c e = absurd ((written-no-fault c.in-Ok.reached.steps c.in-Ok.reached.broken c.written.result c.written.ensures).1 e)
 
@@ -34,6 +37,9 @@ returns-in-Err-clause-applies g c =
 
 pub returns-in-Err-clause-read_fault : goal.returns-in-Err-clause-read_fault
 returns-in-Err-clause-read_fault g c e = c.in-Err.ensures.fault (ap Err (fault-is c.in-Err.outcome e))
+
+pub returns-in-Err-clause-read_fault_at : goal.returns-in-Err-clause-read_fault_at
+returns-in-Err-clause-read_fault_at g c e = c.in-Err.ensures.fault_at (ap Err (fault-is c.in-Err.outcome e))
 
 pub returns-in-Err-clause-write_fault : goal.returns-in-Err-clause-write_fault
 returns-in-Err-clause-write_fault g c e = absurd (refusal-no-write c.in-Err.outcome c.in-Err.ensures.refusal e)

@@ -1,9 +1,15 @@
-use Rattle.std.proofs.Common.{◌∙◌, ℕ, inr, subst, sym}
+use Rattle.std.proofs.Common.{◌≡◌, ◌∙◌, ℕ, inl, inr, ap, subst, sym, Err}
+use Rattle.std.proofs.lemmas.Option.{IfSome_then}
 use Rattle.q_logic.specs.Prelude.{Rose}
 use Rattle.q_io.proofs.FaultCounts.{rose_later}
+use Rattle.q_command.proofs.FaultTurns.{at_once}
 use Rattle.q_command.proofs.FilePieces.{at_same}
 use Rattle.q_command.specs.Parts.{share_of}
 use Rattle.q_run_disprove.specs.Certifying.{files_of}
+use Rattle.q_command.specs.declared.status.Status.TheVariants as status
+use Rattle.q_run_disprove.specs.DisprovedLines.{status_of_disproved}
+use Rattle.q_run_disprove.specs.declared.disproved.Disproved.{Disproved}
+use Rattle.q_run_disprove.proofs.DisproveOutcome.{input-fault}
 use Rattle.q_run_disprove.proofs.CertifyOutcome.{settled-files}
 use Rattle.q_run_disprove.proofs.certifying.certify_files.Goals as goal
 
@@ -21,3 +27,21 @@ returns-clause-read_fault g c e =
     (c.in-Ok.ensures.only_reads.later.read c.args.names.proof.now)
     (subst (λ (n : ℕ). Rose (g.F.Files.read_faults c.read_input.new.files c.args.names.proof.now) n) (sym (c.settle.ensures.reads_nothing e c.args.names.proof.now))
     (c.judge-verdict.ensures.fault (c.settle.ensures.reading e))))
+
+pub returns-clause-read_fault_at : goal.returns-clause-read_fault_at
+returns-clause-read_fault_at g c e =
+    inr (inl (
+      IfSome_then (g.F.Files.held c.args.files.now) c.in-Ok.ensures.formula (λ disk f. (c.in-Ok.formula, f)),
+      rose_later (g.F.Files.read_faults c.args.files.now c.args.names.proof.now) (g.F.Files.read_faults c.read_input.new.files c.args.names.proof.now) (g.F.Files.read_faults c.settle.new.files c.args.names.proof.now)
+          (c.in-Ok.ensures.only_reads.later.read c.args.names.proof.now)
+          (subst (λ (n : ℕ). Rose (g.F.Files.read_faults c.read_input.new.files c.args.names.proof.now) n) (sym (c.settle.ensures.reads_nothing e c.args.names.proof.now))
+          (c.judge-verdict.ensures.fault (c.settle.ensures.reading e))),
+    ))
+
+pub returns-in-Err-clause-read_fault_at : goal.returns-in-Err-clause-read_fault_at
+returns-in-Err-clause-read_fault_at g c e =
+    inl (
+      at_once (g.F.Files.held c.args.files.now),
+      c.in-Err.ensures.fault (ap Err (input-fault c.in-Err.error
+          (subst (λ (o : Disproved). status_of_disproved o ≡ status.ReadFault) c.refused_input.ensures e))),
+    )

@@ -2,8 +2,7 @@ use Rattle.std.proofs.lemmas.Option.{IfSome_then}
 use Rattle.q_io.specs.Files.{bytes_at}
 use Rattle.q_command.proofs.FilePieces.{if_some}
 use Rattle.q_command.specs.Parts.{share_of}
-use Rattle.q_run_disprove.specs.Disproofs.{proof_of}
-use Rattle.q_run_disprove.proofs.DisproofSteps.{at-once}
+use Rattle.q_run_disprove.proofs.JudgedSteps.{says-lost}
 use Rattle.q_run_disprove.proofs.DisproveOutcome.{told-whole}
 use Rattle.q_run_disprove.proofs.disproving.judge.Goals as goal
 
@@ -15,4 +14,4 @@ returns-in-Ok-start-clause-says g c =
 pub returns-clause-says : goal.returns-clause-says
 returns-clause-says g c =
     if_some (g.F.Files.held c.args.files.now) (λ disk.
-    at-once c.args.form.keeps (share_of c.args.part) c.in-Err.verdict c.args.formula (proof_of c.args.form.binary (bytes_at disk c.args.name.now)) c.in-Err.ensures.lost)
+    says-lost c.args.form (share_of c.args.part) c.args.formula (bytes_at disk c.args.name.now) c.in-Err.verdict c.in-Err.ensures.lost)

@@ -11,3 +11,4 @@ returns g c =
     (devices g.F.Files g.S.Sink c.args.files.now c.args.out.now) (devices g.F.Files g.S.Sink c.disprove_part.new.files c.say.new.out)
     c.say.result c.disprove_part.ensures.disproves c.say.ensures
     c.disprove_part.ensures.read_fault (λ e. absurd (c.disprove_part.ensures.write_fault e)) c.disprove_part.ensures.held
+    c.disprove_part.ensures.read_fault_at (λ e. absurd (c.disprove_part.ensures.write_fault e))

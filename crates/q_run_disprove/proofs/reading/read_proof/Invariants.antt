@@ -1,7 +1,7 @@
 use Rattle.std.proofs.Common.{◌+◌, ◌-◌, ◌≡◌, IfSome}
 use Rattle.q_io.specs.Files.{OnlyReads, bytes_at}
 use Rattle.q_binary.specs.Forms.{left_of}
-use Rattle.q_run_disprove.specs.Readings.{IsOpen}
+use Rattle.q_run_disprove.specs.JudgedReadings.{IsOpen}
 use Rattle.q_run_disprove.proofs.DisproofReading.{HasReached}
 use Rattle.q_run_disprove.proofs.reading.read_proof.Given as goal
 

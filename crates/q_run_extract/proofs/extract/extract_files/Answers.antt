@@ -1,5 +1,7 @@
 use Rattle.std.proofs.Common.{◌≡◌, ◌∙◌, inl, inr, ap, subst, Err}
+use Rattle.std.proofs.lemmas.Option.{IfSome_then}
 use Rattle.q_io.proofs.FaultCounts.{rose_later}
+use Rattle.q_command.proofs.FaultTurns.{at_once}
 use Rattle.q_command.proofs.FilePieces.{at_same}
 use Rattle.q_command.specs.declared.status.Status.TheVariants as status
 use Rattle.q_run_extract.specs.ExtractedLines.{status_of_extracted}
@@ -16,6 +18,13 @@ pub returns-in-Err-clause-read_fault : goal.returns-in-Err-clause-read_fault
 returns-in-Err-clause-read_fault g c e =
     inl (c.in-Err.ensures.fault (ap Err (input-fault c.in-Err.error (subst (λ (o : Extracted). status_of_extracted o ≡ status.ReadFault) c.refused_input.ensures e))))
 
+pub returns-in-Err-clause-read_fault_at : goal.returns-in-Err-clause-read_fault_at
+returns-in-Err-clause-read_fault_at g c e =
+    inl (
+      at_once (g.F.Files.held c.args.files.now),
+      c.in-Err.ensures.fault (ap Err (input-fault c.in-Err.error (subst (λ (o : Extracted). status_of_extracted o ≡ status.ReadFault) c.refused_input.ensures e))),
+    )
+
 pub returns-in-Err-clause-write_fault : goal.returns-in-Err-clause-write_fault
 returns-in-Err-clause-write_fault g c e =
     absurd (input-not_write c.in-Err.error (subst (λ (o : Extracted). status_of_extracted o ≡ status.WriteFault) c.refused_input.ensures e))
@@ -31,6 +40,15 @@ returns-in-Err-read_trace-clause-read_fault g c e =
     (c.in-Ok.ensures.only_reads.later.read c.args.names.trace.now)
     (c.in-Err-read_trace.ensures.fault (ap Err (trace-fault c.in-Err-read_trace.error (subst (λ (o : Extracted). status_of_extracted o ≡ status.ReadFault) c.refused_trace.ensures e)))))
 
+pub returns-in-Err-read_trace-clause-read_fault_at : goal.returns-in-Err-read_trace-clause-read_fault_at
+returns-in-Err-read_trace-clause-read_fault_at g c e =
+    inr (inl (
+      IfSome_then (g.F.Files.held c.args.files.now) c.in-Ok.ensures.formula (λ disk f. (c.in-Ok.formula, f)),
+      rose_later (g.F.Files.read_faults c.args.files.now c.args.names.trace.now) (g.F.Files.read_faults c.read_input.new.files c.args.names.trace.now) (g.F.Files.read_faults c.read_trace.new.files c.args.names.trace.now)
+          (c.in-Ok.ensures.only_reads.later.read c.args.names.trace.now)
+          (c.in-Err-read_trace.ensures.fault (ap Err (trace-fault c.in-Err-read_trace.error (subst (λ (o : Extracted). status_of_extracted o ≡ status.ReadFault) c.refused_trace.ensures e)))),
+    ))
+
 pub returns-in-Err-read_trace-clause-write_fault : goal.returns-in-Err-read_trace-clause-write_fault
 returns-in-Err-read_trace-clause-write_fault g c e =
     absurd (trace-not_write c.in-Err-read_trace.error (subst (λ (o : Extracted). status_of_extracted o ≡ status.WriteFault) c.refused_trace.ensures e))
@@ -43,6 +61,9 @@ returns-clause-extracts g c =
 
 pub returns-clause-read_fault : goal.returns-clause-read_fault
 returns-clause-read_fault g c e = absurd (c.settle.ensures.reading (reading-status c.settle.result e))
+
+pub returns-clause-read_fault_at : goal.returns-clause-read_fault_at
+returns-clause-read_fault_at g c e = absurd (c.settle.ensures.reading (reading-status c.settle.result e))
 
 pub returns-clause-write_fault : goal.returns-clause-write_fault
 returns-clause-write_fault g c e =

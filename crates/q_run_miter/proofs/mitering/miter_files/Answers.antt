@@ -1,5 +1,7 @@
 use Rattle.std.proofs.Common.{◌≡◌, ◌∙◌, inl, inr, ap, subst, Err}
+use Rattle.std.proofs.lemmas.Option.{IfSome_then}
 use Rattle.q_io.proofs.FaultCounts.{rose_later}
+use Rattle.q_command.proofs.FaultTurns.{at_once}
 use Rattle.q_command.proofs.FilePieces.{at_same}
 use Rattle.q_command.specs.declared.status.Status.TheVariants as status
 use Rattle.q_run_miter.specs.MiteredLines.{status_of_mitered}
@@ -18,6 +20,13 @@ returns-in-Err-clause-read_fault g c e =
     inl (c.in-Err.ensures.fault (ap Err (input-fault c.in-Err.error
     (subst (λ (o : Mitered). status_of_mitered o ≡ status.ReadFault) c.refused_input.ensures e))))
 
+pub returns-in-Err-clause-read_fault_at : goal.returns-in-Err-clause-read_fault_at
+returns-in-Err-clause-read_fault_at g c e =
+    inl (
+      at_once (g.F.Files.held c.args.files.now),
+      c.in-Err.ensures.fault (ap Err (input-fault c.in-Err.error (subst (λ (o : Mitered). status_of_mitered o ≡ status.ReadFault) c.refused_input.ensures e))),
+    )
+
 pub returns-in-Err-clause-write_fault : goal.returns-in-Err-clause-write_fault
 returns-in-Err-clause-write_fault g c e =
     absurd (input-not_write c.in-Err.error (subst (λ (o : Mitered). status_of_mitered o ≡ status.WriteFault) c.refused_input.ensures e))
@@ -35,6 +44,15 @@ returns-in-Err-read_circuits-clause-read_fault g c e =
     (c.in-Err-read_circuits.ensures.fault (ap Err (text-fault c.in-Err-read_circuits.error
     (subst (λ (o : Mitered). status_of_mitered o ≡ status.ReadFault) c.refused_text.ensures e)))))
 
+pub returns-in-Err-read_circuits-clause-read_fault_at : goal.returns-in-Err-read_circuits-clause-read_fault_at
+returns-in-Err-read_circuits-clause-read_fault_at g c e =
+    inr (inl (
+      IfSome_then (g.F.Files.held c.args.files.now) c.in-Ok.ensures.formula (λ disk f. (c.in-Ok.formula, f)),
+      rose_later (g.F.Files.read_faults c.args.files.now c.args.names.cert.now) (g.F.Files.read_faults c.read_input.new.files c.args.names.cert.now) (g.F.Files.read_faults c.read_circuits.new.files c.args.names.cert.now)
+          (c.in-Ok.ensures.only_reads.later.read c.args.names.cert.now)
+          (c.in-Err-read_circuits.ensures.fault (ap Err (text-fault c.in-Err-read_circuits.error (subst (λ (o : Mitered). status_of_mitered o ≡ status.ReadFault) c.refused_text.ensures e)))),
+    ))
+
 pub returns-in-Err-read_circuits-clause-write_fault : goal.returns-in-Err-read_circuits-clause-write_fault
 returns-in-Err-read_circuits-clause-write_fault g c e =
     absurd (text-not_write c.in-Err-read_circuits.error (subst (λ (o : Mitered). status_of_mitered o ≡ status.WriteFault) c.refused_text.ensures e))
@@ -49,6 +67,9 @@ returns-in-Ok-make_clauses-clause-miters g c =
 
 pub returns-in-Ok-make_clauses-clause-read_fault : goal.returns-in-Ok-make_clauses-clause-read_fault
 returns-in-Ok-make_clauses-clause-read_fault g c e = absurd (c.write_miter.ensures.reading e)
+
+pub returns-in-Ok-make_clauses-clause-read_fault_at : goal.returns-in-Ok-make_clauses-clause-read_fault_at
+returns-in-Ok-make_clauses-clause-read_fault_at g c e = absurd (c.write_miter.ensures.reading e)
 
 pub returns-in-Ok-make_clauses-clause-write_fault : goal.returns-in-Ok-make_clauses-clause-write_fault
 returns-in-Ok-make_clauses-clause-write_fault g c e =
@@ -71,6 +92,10 @@ returns-clause-miters g c =
 
 pub returns-clause-read_fault : goal.returns-clause-read_fault
 returns-clause-read_fault g c e =
+    absurd (fails-not_fault c.in-Err-make_clauses.outcome c.args.side c.in-Ok.formula c.in-Ok-read_circuits.given c.in-Err-make_clauses.ensures.refused e)
+
+pub returns-clause-read_fault_at : goal.returns-clause-read_fault_at
+returns-clause-read_fault_at g c e =
     absurd (fails-not_fault c.in-Err-make_clauses.outcome c.args.side c.in-Ok.formula c.in-Ok-read_circuits.given c.in-Err-make_clauses.ensures.refused e)
 
 pub returns-clause-write_fault : goal.returns-clause-write_fault

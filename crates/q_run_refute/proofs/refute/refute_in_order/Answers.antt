@@ -1,10 +1,12 @@
-use Rattle.std.proofs.Common.{◌∙◌, ap, refl, sym, subst, false, true, Err, IfSome}
+use Rattle.std.proofs.Common.{◌∙◌, inl, ap, [], ◌∷◌, refl, sym, subst, false, true, Err, IfSome}
 use Rattle.q_io.proofs.FaultCounts.{rose_later}
+use Rattle.q_command.specs.Checks.{input_turn, output_turn, log_turn}
+use Rattle.q_command.proofs.FaultTurns.{three-at}
 use Rattle.q_command.proofs.FilePieces.{at_same}
 use Rattle.q_command.specs.declared.audit.Keep.{Keep}
-use Rattle.q_run_refute.specs.Refutes.{FaultsReading, Refutes, files_of}
+use Rattle.q_run_refute.specs.Refutes.{FaultsReading, Refutes, files_of, herbrand_turn, three_read}
 use Rattle.q_run_refute.specs.declared.refuted.Refuted.{Refuted}
-use Rattle.q_run_refute.proofs.RefuteFiles.{unreversed-joined, circuits-joined, written-joined, circuits-reading, circuits-not_write, unreversed-not_reading, unreversed-not_writing}
+use Rattle.q_run_refute.proofs.RefuteFiles.{unreversed-joined, circuits-joined, written-joined, circuits-reading, circuits-not_write, unreversed-not_reading, unreversed-not_writing, unverified-reading, plain-joined}
 use Rattle.q_run_refute.proofs.refute.refute_in_order.Goals as goal
 
 abbrev keep : Keep
@@ -22,6 +24,16 @@ pub returns-in-Err-reverse-clause-read_fault : goal.returns-in-Err-reverse-claus
 returns-in-Err-reverse-clause-read_fault g c = λ f.
     absurd (unreversed-not_reading c.in-Err-reverse.error (subst FaultsReading c.not_reversed.ensures f))
 
+pub returns-in-Err-clause-read_fault_at : goal.returns-in-Err-clause-read_fault_at
+returns-in-Err-clause-read_fault_at g c = λ f.
+    let n = three_read (files_of c.args.names) in
+    three-at g.F.Files.read_faults (input_turn n) (output_turn n) (log_turn n) (herbrand_turn (files_of c.args.names) ∷ []) (g.F.Files.held c.args.files.now) (g.F.Files.held c.verify.new.files) c.args.files.now c.verify.new.files
+    (c.in-Err.ensures.fault_at (ap Err (unverified-reading c.in-Err.why f)))
+
+pub returns-in-Err-reverse-clause-read_fault_at : goal.returns-in-Err-reverse-clause-read_fault_at
+returns-in-Err-reverse-clause-read_fault_at g c = λ f.
+    absurd (unreversed-not_reading c.in-Err-reverse.error (subst FaultsReading c.not_reversed.ensures f))
+
 pub returns-in-Err-reverse-clause-write_fault : goal.returns-in-Err-reverse-clause-write_fault
 returns-in-Err-reverse-clause-write_fault g c = λ e.
     absurd (unreversed-not_writing c.in-Err-reverse.error (sym c.not_reversed.ensures ∙ e))
@@ -37,6 +49,9 @@ returns-in-Ok-carry_back-clause-refutes g c =
 
 pub returns-in-Ok-carry_back-clause-read_fault : goal.returns-in-Ok-carry_back-clause-read_fault
 returns-in-Ok-carry_back-clause-read_fault g c = λ f. absurd (c.write_certificate.ensures.writing f)
+
+pub returns-in-Ok-carry_back-clause-read_fault_at : goal.returns-in-Ok-carry_back-clause-read_fault_at
+returns-in-Ok-carry_back-clause-read_fault_at g c = λ f. absurd (c.write_certificate.ensures.writing f)
 
 pub returns-in-Ok-carry_back-clause-write_fault : goal.returns-in-Ok-carry_back-clause-write_fault
 returns-in-Ok-carry_back-clause-write_fault g c = λ e.
@@ -66,6 +81,18 @@ returns-clause-read_fault g c =
     (g.F.Files.read_faults c.carry_back.new.files c.args.names.herbrand.now)
     (c.in-Ok.ensures.only_reads.later.read c.args.names.herbrand.now)
     (c.in-Err-carry_back.ensures.fault (ap Err e)))
+
+pub returns-clause-read_fault_at : goal.returns-clause-read_fault_at
+returns-clause-read_fault_at g c =
+    circuits-reading c.in-Err-carry_back.outcome c.in-Err-carry_back.ensures.of_circuits
+    (λ e. inl (
+      plain-joined keep refl (files_of c.args.names) c.in-Ok.checked c.in-Ok.ensures.kept c.in-Ok-reverse.reversals c.in-Ok-reverse.ensures.reversals (g.F.Files.held c.args.files.now) c.in-Ok.ensures.passes,
+      rose_later (g.F.Files.read_faults c.args.files.now c.args.names.herbrand.now)
+          (g.F.Files.read_faults c.verify.new.files c.args.names.herbrand.now)
+          (g.F.Files.read_faults c.carry_back.new.files c.args.names.herbrand.now)
+          (c.in-Ok.ensures.only_reads.later.read c.args.names.herbrand.now)
+          (c.in-Err-carry_back.ensures.fault (ap Err e)),
+    ))
 
 pub returns-clause-write_fault : goal.returns-clause-write_fault
 returns-clause-write_fault g c = λ e.

@@ -1,5 +1,10 @@
-use Rattle.q_logic.specs.Prelude.{PrenexFormula}
-use Rattle.q_run_solve.specs.Solves.{files_of}
+use Rattle.std.proofs.Common.{subst, sym, IfSome}
+use Rattle.q_logic.specs.Prelude.{PrenexFormula, standard}
+use Rattle.q_io.specs.Files.{bytes_at}
+use Rattle.q_dimacs.specs.Dimacs.{Dimacs}
+use Rattle.q_command.proofs.FaultTurns.{later-at}
+use Rattle.q_command.proofs.FilePieces.{at_same}
+use Rattle.q_run_solve.specs.Solves.{files_of, turns_written}
 use Rattle.q_run_solve.proofs.SolveParts.{refused-says, settled-all, starts-same}
 use Rattle.q_run_solve.proofs.RisenFaults.{three-later, refusal-writes, refusal-reads}
 use Rattle.q_run_solve.proofs.solve.solve_files.Goals as goal
@@ -26,3 +31,13 @@ returns-in-Ok-reduce-clause-read_fault g c = λ s. absurd (c.settle.ensures.read
 pub returns-in-Ok-reduce-clause-write_fault : goal.returns-in-Ok-reduce-clause-write_fault
 returns-in-Ok-reduce-clause-write_fault g c =
     λ s. three-later g.F.Files.read_faults g.F.Files.write_faults c.args.names.output.now c.args.names.log.now c.args.names.cert.now c.args.files.now c.read_input.new.files c.settle.new.files c.in-Ok.ensures.only_reads.later (c.settle.ensures.cause s)
+
+pub returns-in-Err-clause-write_fault_at : goal.returns-in-Err-clause-write_fault_at
+returns-in-Err-clause-write_fault_at g c = λ s. absurd (refusal-writes c.refused.result c.in-Err.error c.refused.ensures s)
+
+pub returns-in-Ok-reduce-clause-write_fault_at : goal.returns-in-Ok-reduce-clause-write_fault_at
+returns-in-Ok-reduce-clause-write_fault_at g c = λ s.
+    let same = c.in-Ok.ensures.only_reads.same in
+    let f = subst (λ (H : PrenexFormula). IfSome (g.F.Files.held c.args.files.now) (λ disk. Dimacs standard (bytes_at disk c.args.names.input.now) H)) (sym c.in-Ok-reduce.ensures.start) c.in-Ok.ensures.formula in
+    later-at g.F.Files.write_faults (turns_written (files_of c.args.names)) (g.F.Files.held c.args.files.now) (g.F.Files.held c.read_input.new.files) (g.F.Files.held c.settle.new.files) c.args.files.now c.read_input.new.files c.settle.new.files
+    same c.in-Ok.ensures.only_reads.later.write (c.settle.ensures.cause_at s (at_same _ _ _ (sym same) f))

@@ -10,3 +10,4 @@ returns g c =
     (devices g.F.Files g.S.Sink c.args.files.now c.args.out.now) (devices g.F.Files g.S.Sink c.validate_files.new.files c.say.new.out)
     c.say.result c.validate_files.ensures.validates c.say.ensures
     c.validate_files.ensures.read_fault (λ e. absurd (c.validate_files.ensures.write_fault e)) c.validate_files.ensures.held
+    c.validate_files.ensures.read_fault_at (λ e. absurd (c.validate_files.ensures.write_fault e))

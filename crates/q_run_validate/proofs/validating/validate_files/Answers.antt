@@ -1,6 +1,7 @@
 use Rattle.std.proofs.Common.{◌≡◌, ◌∙◌, inl, inr, ap, subst, Err}
 use Rattle.std.proofs.lemmas.Option.{IfSome_then}
 use Rattle.q_io.proofs.FaultCounts.{rose_later}
+use Rattle.q_command.proofs.FaultTurns.{at_once}
 use Rattle.q_command.proofs.FilePieces.{if_some_2, at_same}
 use Rattle.q_command.specs.declared.status.Status.TheVariants as status
 use Rattle.q_run_validate.specs.ValidatedLines.{status_of_validated}
@@ -21,6 +22,14 @@ returns-in-Err-clause-read_fault g c e =
     inl (c.in-Err.ensures.fault (ap Err (input-fault c.in-Err.error
     (subst (λ (o : Validated). status_of_validated o ≡ status.ReadFault) c.refused_input.ensures e))))
 
+pub returns-in-Err-clause-read_fault_at : goal.returns-in-Err-clause-read_fault_at
+returns-in-Err-clause-read_fault_at g c e =
+    inl (
+      at_once (g.F.Files.held c.args.files.now),
+      c.in-Err.ensures.fault (ap Err (input-fault c.in-Err.error
+          (subst (λ (o : Validated). status_of_validated o ≡ status.ReadFault) c.refused_input.ensures e))),
+    )
+
 pub returns-in-Err-clause-write_fault : goal.returns-in-Err-clause-write_fault
 returns-in-Err-clause-write_fault g c = never-write c.refused_input.result
 
@@ -39,6 +48,16 @@ returns-in-Err-read_circuits-clause-read_fault g c e =
     (c.in-Err-read_circuits.ensures.fault (ap Err (text-fault c.in-Err-read_circuits.error
     (subst (λ (o : Validated). status_of_validated o ≡ status.ReadFault) c.refused_text.ensures e)))))
 
+pub returns-in-Err-read_circuits-clause-read_fault_at : goal.returns-in-Err-read_circuits-clause-read_fault_at
+returns-in-Err-read_circuits-clause-read_fault_at g c e =
+    inr (inl (
+      IfSome_then (g.F.Files.held c.args.files.now) c.in-Ok.ensures.formula (λ disk f. (c.in-Ok.formula, f)),
+      rose_later (g.F.Files.read_faults c.args.files.now c.args.names.cert.now) (g.F.Files.read_faults c.read_input.new.files c.args.names.cert.now) (g.F.Files.read_faults c.read_circuits.new.files c.args.names.cert.now)
+          (c.in-Ok.ensures.only_reads.later.read c.args.names.cert.now)
+          (c.in-Err-read_circuits.ensures.fault (ap Err (text-fault c.in-Err-read_circuits.error
+          (subst (λ (o : Validated). status_of_validated o ≡ status.ReadFault) c.refused_text.ensures e)))),
+    ))
+
 pub returns-in-Err-read_circuits-clause-write_fault : goal.returns-in-Err-read_circuits-clause-write_fault
 returns-in-Err-read_circuits-clause-write_fault g c = never-write c.refused_text.result
 
@@ -52,6 +71,10 @@ returns-clause-validates g c =
 
 pub returns-clause-read_fault : goal.returns-clause-read_fault
 returns-clause-read_fault g c e =
+    absurd (judged-not_fault c.judge.result c.in-Ok.formula c.in-Ok-read_circuits.given c.args.budget c.judge.ensures e)
+
+pub returns-clause-read_fault_at : goal.returns-clause-read_fault_at
+returns-clause-read_fault_at g c e =
     absurd (judged-not_fault c.judge.result c.in-Ok.formula c.in-Ok-read_circuits.given c.args.budget c.judge.ensures e)
 
 pub returns-clause-write_fault : goal.returns-clause-write_fault

@@ -1,5 +1,8 @@
+use Rattle.std.proofs.Common.{subst}
+use Rattle.q_sched.specs.declared.looking.Look.{Look}
+use Rattle.q_sched.specs.Looks.{LooksAny}
 use Rattle.q_sched.proofs.searching.close.Goals as goal
 
-pub returns-in-Ok-Some-clause-closes : goal.returns-in-Ok-Some-clause-closes
-returns-in-Ok-Some-clause-closes c =
-    λ d. d _ (c.in-Ok-Some.ensures.finds.some c.in-Ok-Some.field-0-0 c.in-Ok-Some.field-0-is).1
+pub returns-in-Ok-Found-clause-closes : goal.returns-in-Ok-Found-clause-closes
+returns-in-Ok-Found-clause-closes g c =
+    λ d. d _ (subst (λ (l : Look). LooksAny c.args.bounds.now c.args.kernel.now l) c.in-Ok-Found.field-0-is c.in-Ok-Found.ensures.looks).1

@@ -1,6 +1,6 @@
 use Rattle.std.proofs.Common.{IfOk, subst}
 use Rattle.q_sched.specs.Drives.{Driving}
-use Rattle.q_simplify.specs.AlarmViews.{view_alarm}
+use Rattle.q_sched.specs.AlarmViews.{view_alarm}
 use Rattle.q_simplify.specs.Stops.{TurnsEndFrom}
 use Rattle.q_simplify.proofs.driving.follow.Goals as goal
 

@@ -5,14 +5,14 @@ use Rattle.q_kernel.specs.Prelude.{formula_in, IsReady}
 use Rattle.q_reduce.specs.Learned.{IsFitFor}
 use Rattle.q_sched.specs.Drives.{left_of, SameFrame}
 use Rattle.q_sched.specs.Seen.{seen, learned}
-use Rattle.q_simplify.specs.AlarmViews.{view_alarm}
+use Rattle.q_sched.specs.AlarmViews.{view_alarm}
 use Rattle.q_simplify.specs.Logs.{HasLog}
 use Rattle.q_simplify.specs.Moves.{MovesTo}
-use Rattle.q_simplify.proofs.AlarmTurns.{IsQuiet}
+use Rattle.q_sched.specs.Alarms.{IsQuiet}
 use Rattle.q_simplify.proofs.driving.take_turns.Given as goal
 
-abbrev pub invariant-loop-alloc : goal.invariant-loop-alloc
-invariant-loop-alloc g l =
+abbrev pub invariant-loop-files : goal.invariant-loop-files
+invariant-loop-files g l =
     record {
       frame : SameFrame (seen (λ b. (goal.Guide-dyn g (b.vtable, b.value)).asked b.value) (λ b. (goal.Guide-dyn g (b.vtable, b.value)).last b.value) (λ b. (goal.Guide-dyn g (b.vtable, b.value)).heard b.value) l.fn.drive) (seen (λ b. (goal.Guide-dyn g (b.vtable, b.value)).asked b.value) (λ b. (goal.Guide-dyn g (b.vtable, b.value)).last b.value) (λ b. (goal.Guide-dyn g (b.vtable, b.value)).heard b.value) l.drive);
       ready : IsReady l.kernel;
@@ -23,6 +23,6 @@ invariant-loop-alloc g l =
       later : Later g.F.Files.read_faults g.F.Files.write_faults l.fn.files l.files;
     }
 
-abbrev pub decreases-loop-alloc : goal.decreases-loop-alloc
-decreases-loop-alloc g l =
+abbrev pub decreases-loop-files : goal.decreases-loop-files
+decreases-loop-files g l =
     measure_of (seen (λ b. (goal.Guide-dyn g (b.vtable, b.value)).asked b.value) (λ b. (goal.Guide-dyn g (b.vtable, b.value)).last b.value) (λ b. (goal.Guide-dyn g (b.vtable, b.value)).heard b.value) l.fn.drive).bounds (formula_in l.kernel) + left_of (seen (λ b. (goal.Guide-dyn g (b.vtable, b.value)).asked b.value) (λ b. (goal.Guide-dyn g (b.vtable, b.value)).last b.value) (λ b. (goal.Guide-dyn g (b.vtable, b.value)).heard b.value) l.drive)

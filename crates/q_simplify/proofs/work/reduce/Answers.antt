@@ -1,6 +1,6 @@
 use Rattle.q_logic.proofs.Common.{on_err}
 use Rattle.q_io.specs.Files.{Disk, Empties}
-use Rattle.q_simplify.specs.AlarmViews.{view_alarm}
+use Rattle.q_sched.specs.AlarmViews.{view_alarm}
 use Rattle.q_simplify.specs.Logs.{LeavesLog}
 use Rattle.q_kernel.specs.Prelude.{formula_in}
 use Rattle.q_simplify.proofs.LogFile.{has_log-left, has_log-whole}

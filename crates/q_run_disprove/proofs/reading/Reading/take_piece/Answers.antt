@@ -1,5 +1,5 @@
 use Rattle.std.proofs.Common.{◌≤◌, arith, subst, length, length-drop, take, drop, ◌++◌}
-use Rattle.q_run_disprove.specs.Readings.{Advances, Tells}
+use Rattle.q_run_disprove.specs.JudgedReadings.{Advances, Tells}
 use Rattle.q_command.proofs.AuditSteps.{whole-rest}
 use Rattle.q_run_disprove.proofs.DisproofReading.{advances_further, tells_from}
 use Rattle.q_run_disprove.proofs.reading.Reading.take_piece.Goals as goal

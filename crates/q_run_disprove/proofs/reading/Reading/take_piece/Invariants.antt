@@ -1,5 +1,5 @@
 use Rattle.std.proofs.Common.{◌≤◌, ◌-◌, take, length}
-use Rattle.q_run_disprove.specs.Readings.{Advances}
+use Rattle.q_run_disprove.specs.JudgedReadings.{Advances}
 use Rattle.q_run_disprove.proofs.reading.Reading.take_piece.Given as goal
 
 abbrev pub invariant-loop-at : goal.invariant-loop-at

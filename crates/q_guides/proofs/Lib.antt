@@ -1,0 +1,2 @@
+mod MoveFields
+mod MoveLines

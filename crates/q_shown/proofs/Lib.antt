@@ -1,0 +1,2 @@
+pub mod HintedRefuting
+pub mod HintedFront
