@@ -12,14 +12,14 @@ ghost use Rattle.q_command.specs.Checks.{AreEnds, Checks, FilesPass, HaveOneTrut
 ghost use Rattle.q_command.specs.Parts.{ChecksShared, LogSaysShared, share_of};
 
 use crate::audit::{Audit, Keep, Passed};
-use crate::input::{InputError, PIECE, read_formula};
+use crate::input::{InputError, read_formula};
 use crate::names::Names;
 use crate::origin::Origin;
 use crate::outcome::{Outcome, Role};
 use crate::part::Part;
 use crate::taken::TakenStep;
 use q_check::Undos;
-use q_io::Files;
+use q_io::{Files, PIECE};
 use q_logic::Formula;
 use std::alloc::Global;
 

@@ -8,12 +8,9 @@ ghost use Rattle.q_dimacs.specs.Scanning.{HasRead};
 ghost use Rattle.q_command.specs.Inputs.{HasFed, HasFront, IsReading, IsRefused, device_error, read_error};
 
 use q_dimacs::{ReadError, Reader};
-use q_io::{DeviceError, Files};
+use q_io::{DeviceError, Files, PIECE};
 use q_logic::{Formula, Limits};
 use std::alloc::Global;
-
-/// How many bytes of a file are read at once.
-pub const PIECE: usize = 65_536;
 
 /// Why there is no formula.
 #[derive(Clone, Copy, Debug, PartialEq, Eq)]

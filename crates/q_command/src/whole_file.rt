@@ -4,8 +4,7 @@ ghost use Rattle.q_io.specs.Files.{RoseFor, bytes_at};
 ghost use Rattle.q_command.specs.Reading.{OnlyReadsFiles};
 ghost use Rattle.q_command.specs.Texts.{HasAppended, HasLineEnd, IsTextOf};
 
-use crate::input::PIECE;
-use q_io::{DeviceError, Files, LAST_PLACE};
+use q_io::{DeviceError, Files, LAST_PLACE, PIECE};
 use std::alloc::Global;
 
 // Puts the next piece of a file behind the text.
@@ -61,7 +60,7 @@ fn read_through<F: Files>(
     buffer: &mut [u8],
 ) -> Result<Vec<u8>, DeviceError>
     requires room { 0 < length buffer.old }
-    requires small { length buffer.old ≤ 65536 }
+    requires small { length buffer.old ≤ PIECE }
     ensures bytes { IfOk result (λ text. IfSome (F.held files.old)
         (λ disk. IsTextOf (bytes_at disk name.now) text.items)) }
     ensures fault { IsErrOf result DeviceError.Failed

@@ -9,6 +9,9 @@ use crate::error::DeviceError;
 /// The last place that a read may begin at: no file is longer than is read of it.
 pub const LAST_PLACE: u64 = 1_099_511_627_776;
 
+/// How many bytes of a file are read at once, or are pending before they are written.
+pub const PIECE: usize = 65_536;
+
 /// Files by name. A call fails only where a count of faults rose in it, or stands at the last number
 /// that a u64 has; no count ever falls.
 pub trait Files {

@@ -13,7 +13,7 @@ mod steady;
 mod whole;
 
 pub use error::DeviceError;
-pub use files::{Files, LAST_PLACE, Sink};
+pub use files::{Files, LAST_PLACE, PIECE, Sink};
 pub use memory::{Call, Fault, MemFiles};
 pub use real::{DiskFiles, StdSink};
 pub use sinks::{MemSink, SteadySink};

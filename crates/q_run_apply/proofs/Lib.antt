@@ -4,4 +4,3 @@ pub mod ApplyReading
 pub mod ApplyOutcome
 pub mod ApplyStatus
 pub mod AppliedLogs
-pub mod Putting

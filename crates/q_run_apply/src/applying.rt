@@ -11,11 +11,11 @@ ghost use Rattle.q_run_apply.specs.Readings.{HasMade, IsMade, IsReached, IsRefus
 
 use crate::applied::Applied;
 use crate::names::ApplyNames;
-use crate::output::write_output;
 use crate::reading::{Made, Reading, read_log};
-use q_command::{InputError, PIECE, read_input};
-use q_io::{DeviceError, Files};
+use q_command::{InputError, read_input};
+use q_io::{DeviceError, Files, PIECE};
 use q_logic::{Formula, NoMemory};
+use q_output::write_output;
 use std::alloc::Global;
 
 /// The formula to which the whole steps of a log lead, how many they are, and the line on which the log breaks off, if it does.

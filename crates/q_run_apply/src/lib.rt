@@ -12,7 +12,6 @@ mod command;
 mod law;
 mod maker;
 mod names;
-mod output;
 mod reading;
 
 pub use applied::Applied;

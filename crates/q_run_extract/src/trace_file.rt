@@ -6,8 +6,7 @@ ghost use Rattle.q_qrp.specs.Scanning.{HasRead, has_finished};
 ghost use Rattle.q_qrp.specs.Offences.{ReadsOn, TraceOf};
 ghost use Rattle.q_run_extract.specs.TraceFiles.{HasFed, HasFront, IsReading, IsRefused, device_error, trace_error};
 
-use q_command::PIECE;
-use q_io::{DeviceError, Files};
+use q_io::{DeviceError, Files, PIECE};
 use q_qrp::{Trace, TraceError, TraceReader};
 use std::alloc::Global;
 

@@ -8,4 +8,3 @@ pub mod KernelWork
 pub mod Decided
 pub mod BothFiles
 pub mod DriveMeasure
-pub mod Putting

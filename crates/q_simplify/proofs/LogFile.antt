@@ -1,5 +1,6 @@
 -- What the file of the log and the kernel say together, through the changes of both.
 use Rattle.std.proofs.Common.{◌≡◌, inr, ℕ, suc, ◌+◌, List, [], ◌∷◌, ◌++◌, refl, sym, ap, ◌∙◌, subst, arith, length, take, append_assoc, append-nil, Option, Some, unwrap_or, IfSome, Result, Err}
+use Rattle.std.proofs.Math.Seq.{take-append_seam, take-append-add}
 use Rattle.q_logic.specs.Prelude.{Prefix, PrenexFormula, blocks, SameBlocks, standard, AreAlike, SameFormula, ValidSteps}
 use Rattle.q_io.specs.Files.{Disk, Later, RoseFor, bytes_at, Empties, Appends, AppendsPart}
 use Rattle.q_io.specs.declared.error.DeviceError.{DeviceError}
@@ -89,14 +90,6 @@ has_log-written F name before j k bytes mid after h w b t p s =
       others = others-through name before h.disk a.disk h.others a.others;
     }
 
-pub take-front : (xs ys : List ℕ) → take (length xs) (xs ++ ys) ≡ xs
-take-front [] ys = refl
-take-front (x ∷ xs) ys = let i : take (length xs) (xs ++ ys) ≡ xs = take-front xs ys in grind arith
-
-pub take-front_more : (xs ys : List ℕ) (n : ℕ) → take (length xs + n) (xs ++ ys) ≡ xs ++ take n ys
-take-front_more [] ys n = let e : 0 + n ≡ n = omega arith in rw e refl
-take-front_more (x ∷ xs) ys n = let i : take (length xs + n) (xs ++ ys) ≡ xs ++ take n ys = take-front_more xs ys n in let e : length (x ∷ xs) + n ≡ suc (length xs + n) = omega arith in rw e (ap (λ zs. x ∷ zs) i)
-
 -- the file as it stands
 pub has_log-left : (F : PrenexFormula) (name : List ℕ) (before : Disk) (k : Seen) (after : Option Disk) → HasLog F name before k after → LeavesLog F name before after
 has_log-left F name before k after h =
@@ -104,7 +97,7 @@ has_log-left F name before k after h =
     record {
       disk = h.disk;
       told = h.told;
-      log = inr (record { steps = h.steps; logged = h.logged; last = h.last; valid = h.valid; part = length h.bytes; bytes = e ∙ (sym (take-front h.bytes k.text) ∙ ap (λ t. take (length h.bytes) t) h.text) });
+      log = inr (record { steps = h.steps; logged = h.logged; last = h.last; valid = h.valid; part = length h.bytes; bytes = e ∙ (sym (take-append_seam h.bytes k.text) ∙ ap (λ t. take (length h.bytes) t) h.text) });
       others = h.others;
     }
 
@@ -116,7 +109,7 @@ has_log-part F name before k bytes mid after h w b =
     record {
       disk = a.disk;
       told = a.told;
-      log = inr (record { steps = h.steps; logged = h.logged; last = h.last; valid = h.valid; part = length h.bytes + a.part; bytes = a.bytes ∙ (ap (λ b. b ++ take a.part k.text) e ∙ (sym (take-front_more h.bytes k.text a.part) ∙ ap (λ t. take (length h.bytes + a.part) t) h.text)) });
+      log = inr (record { steps = h.steps; logged = h.logged; last = h.last; valid = h.valid; part = length h.bytes + a.part; bytes = a.bytes ∙ (ap (λ b. b ++ take a.part k.text) e ∙ (sym (take-append-add h.bytes k.text a.part) ∙ ap (λ t. take (length h.bytes + a.part) t) h.text)) });
       others = others-through name before h.disk a.disk h.others a.others;
     }
 

@@ -2,4 +2,3 @@ pub mod Moves
 pub mod Stops
 pub mod Logs
 pub mod Results
-pub mod Outputs

@@ -14,13 +14,10 @@ ghost use Rattle.q_simplify.specs.Logs.{LogGoesOn};
 use crate::log_file::flush;
 use crate::options::Options;
 use crate::stop::Stop;
-use q_io::{DeviceError, Files};
+use q_io::{DeviceError, Files, PIECE};
 use q_kernel::Kernel;
 use q_logic::NoMemory;
 use q_sched::{Alarm, Drive, Guide, Turn};
-
-// So many bytes of the log are pending before they are written.
-const PENDING: usize = 65_536;
 
 // What there is to say where an alarm rang. Whether a target is left would take a round of searches. A formula that has no literal is
 // decided, and then none is.
@@ -93,7 +90,7 @@ pub(crate) fn take_turns<F: Files, A: Alarm>(
 {
     loop {
         match take_turn(kernel, drive, alarm)? {
-            Turn::Moved => flush(files, log, kernel, PENDING)?,
+            Turn::Moved => flush(files, log, kernel, PIECE)?,
             Turn::Asked => {}
             Turn::Settled => return Ok(Stop::Settled),
             Turn::Spent => return Ok(Stop::Spent),

@@ -4,7 +4,6 @@
 mod driving;
 mod log_file;
 mod options;
-mod output;
 mod report;
 mod stop;
 mod work;

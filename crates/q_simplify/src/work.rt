@@ -11,13 +11,13 @@ ghost use Rattle.q_sched.specs.AlarmViews.{view_alarm};
 use crate::driving::follow;
 use crate::log_file::flush;
 use crate::options::Options;
-use crate::output::write_output;
 use crate::report::{Ending, Report};
 use crate::stop::Stop;
 use q_dimacs::written_within_limits_is_read;
 use q_io::{DeviceError, Files};
 use q_kernel::Kernel;
 use q_logic::{Bounds, Formula, NoMemory};
+use q_output::write_output;
 use q_sched::{Alarm, Guide};
 use std::alloc::Global;
 

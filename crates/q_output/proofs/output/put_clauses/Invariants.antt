@@ -1,8 +1,8 @@
 use Rattle.std.proofs.Common.{List, ℕ}
 use Rattle.q_io.specs.Files.{Disk, Later}
-use Rattle.q_run_apply.specs.Outputs.{HoldsSome}
-use Rattle.q_run_apply.proofs.Putting.{HaveCome}
-use Rattle.q_run_apply.proofs.output.put_clauses.Given as goal
+use Rattle.q_output.specs.Outputs.{HoldsSome}
+use Rattle.q_output.proofs.Putting.{HaveCome}
+use Rattle.q_output.proofs.output.put_clauses.Given as goal
 
 abbrev pub invariant-loop-at : goal.invariant-loop-at
 invariant-loop-at g l =

@@ -1,10 +1,10 @@
 use Rattle.std.proofs.Common.{◌∙◌, ap, List, ℕ, ◌++◌}
 use Rattle.q_io.proofs.StoreContents.{untouched, not_created}
 use Rattle.q_dimacs.specs.Writing.{formula_text, front_text}
-use Rattle.q_simplify.proofs.Putting.{output-stopped, output-last, output-whole}
+use Rattle.q_output.proofs.Putting.{output-stopped, output-last, output-whole}
 use Rattle.std.proofs.lemmas.Result.{on_err_weaker}
 use Rattle.q_logic.proofs.Common.{on_err, on_both}
-use Rattle.q_simplify.proofs.output.write_output.Goals as goal
+use Rattle.q_output.proofs.output.write_output.Goals as goal
 
 pub returns-in_err-put_front-clause-part : goal.returns-in_err-put_front-clause-part
 returns-in_err-put_front-clause-part g c = on_err _ (untouched c.args.name.now (formula_text c.args.formula.now) (g.F.Files.held c.args.files.now))

@@ -2,10 +2,10 @@ use Rattle.std.proofs.Common.{List, ℕ, ◌++◌, arith}
 use Rattle.q_logic.proofs.Common.{on_err}
 use Rattle.q_io.specs.Files.{Disk, MayHoldFront}
 use Rattle.q_dimacs.specs.Writing.{matrix_text}
-use Rattle.q_run_apply.specs.Outputs.{HoldsSome}
+use Rattle.q_output.specs.Outputs.{HoldsSome}
 use Rattle.q_io.proofs.FaultCounts.{later_still, later_at_once}
-use Rattle.q_run_apply.proofs.Putting.{come-none, come-more, come-stopped, come-failed, come-all}
-use Rattle.q_run_apply.proofs.output.put_clauses.Goals as goal
+use Rattle.q_output.proofs.Putting.{come-none, come-more, come-stopped, come-failed, come-all}
+use Rattle.q_output.proofs.output.put_clauses.Goals as goal
 
 pub loop-at-init : goal.loop-at-init
 loop-at-init g c =

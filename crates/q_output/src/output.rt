@@ -1,16 +1,13 @@
-// The result goes into its file, in pieces.
+// The text of a formula goes into its file, in pieces.
 ghost use Rattle.std.specs.Prelude.{◌≡◌, ◌≤◌, ◌<◌, ◌++◌, List, ℕ, length, OnOk, OnErr, IsErrOf, IfSome};
 ghost use Rattle.q_io.specs.Files.{Disk, HoldsBytes, Later, MayHoldFront, RoseFor};
 ghost use Rattle.q_dimacs.specs.Writing.{formula_text, matrix_text};
-ghost use Rattle.q_simplify.specs.Outputs.{HoldsSome};
+ghost use Rattle.q_output.specs.Outputs.{HoldsSome};
 
 use q_dimacs::{put_clause, put_front};
-use q_io::{DeviceError, Files};
+use q_io::{DeviceError, Files, PIECE};
 use q_logic::Formula;
 use std::alloc::Global;
-
-// So many bytes of the text are pending before they are written.
-const PIECE: usize = 65_536;
 
 // Appends the pending text and clears it, where it has at least so many bytes.
 fn put_piece<F: Files>(
@@ -66,7 +63,7 @@ fn put_clauses<F: Files>(
 }
 
 /// Creates the file with the canonical text of the formula.
-pub(crate) fn write_output<F: Files>(
+pub fn write_output<F: Files>(
     alloc: Global,
     files: &mut F,
     name: &str,

@@ -4,9 +4,9 @@ use Rattle.q_logic.specs.Prelude.{Clause, Matrix, PrenexFormula, blocks}
 use Rattle.q_io.specs.Files.{Disk, bytes_at, Appends, AppendsPart, Empties, HoldsBytes, MayHoldFront}
 use Rattle.q_io.proofs.StoreContents.{at_some, others-through}
 use Rattle.q_dimacs.specs.Writing.{blocks_text, clause_text, formula_text, front_text, greatest_bound, header_text, matrix_text}
-use Rattle.q_simplify.specs.Outputs.{HoldsSome}
+use Rattle.q_output.specs.Outputs.{HoldsSome}
 use Rattle.q_dimacs.proofs.UnwrittenLists.{matrix-next}
-use Rattle.q_simplify.proofs.LogFile.{take-front, take-front_more}
+use Rattle.std.proofs.Math.Seq.{take-append_seam, take-append-add}
 
 -- the file is empty, and all is pending
 pub holds-none : (name text : List ℕ) (before : Disk) (after : Option Disk) → Empties name before after → HoldsSome name text text before after
@@ -47,7 +47,7 @@ holds-part name old bytes mid after b w text before h =
     record {
       disk = a.disk;
       told = a.told;
-      bytes = inr (length h.bytes + a.part, a.bytes ∙ (ap (λ (b : List ℕ). b ++ take a.part old) e ∙ (sym (take-front_more h.bytes old a.part) ∙ ap (λ (t : List ℕ). take (length h.bytes + a.part) t) h.whole)));
+      bytes = inr (length h.bytes + a.part, a.bytes ∙ (ap (λ (b : List ℕ). b ++ take a.part old) e ∙ (sym (take-append-add h.bytes old a.part) ∙ ap (λ (t : List ℕ). take (length h.bytes + a.part) t) h.whole)));
       others = others-through name before h.disk a.disk h.others a.others;
     }
 
@@ -57,7 +57,7 @@ holds-front name text old before after h =
     record {
       disk = h.disk;
       told = h.told;
-      bytes = inr (length h.bytes, ap (λ o. unwrap_or o []) h.there ∙ (sym (take-front h.bytes old) ∙ ap (λ (t : List ℕ). take (length h.bytes) t) h.whole));
+      bytes = inr (length h.bytes, ap (λ o. unwrap_or o []) h.there ∙ (sym (take-append_seam h.bytes old) ∙ ap (λ (t : List ℕ). take (length h.bytes) t) h.whole));
       others = h.others;
     }
 

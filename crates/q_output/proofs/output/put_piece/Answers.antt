@@ -1,6 +1,6 @@
 use Rattle.q_logic.proofs.Common.{on_err}
-use Rattle.q_run_apply.proofs.Putting.{holds-part, holds-put}
-use Rattle.q_run_apply.proofs.output.put_piece.Goals as goal
+use Rattle.q_output.proofs.Putting.{holds-part, holds-put}
+use Rattle.q_output.proofs.output.put_piece.Goals as goal
 
 pub returns-in_err-append-clause-part : goal.returns-in_err-append-clause-part
 returns-in_err-append-clause-part g c =
