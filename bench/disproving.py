@@ -193,6 +193,16 @@ class Proofs(Trial):
         if said != wanted or status != (20 if wanted.startswith("false") else 1):
             self.complain(name, f"says '{said}' with status {status}, not '{wanted}'")
 
+    def annotate(self, name, wanted, *forced):
+        """Compares what is said of the proof where it is written with hints, and what `disprove` says of these."""
+        if not self.has_command:
+            return
+        status, said = run([CELDRINN, "annotate", place("in"), place("proof"), place("hints"), *forced])
+        if said != wanted.replace("false", "annotated") or status != (0 if wanted.startswith("false") else 1):
+            self.complain(name, f"annotate says '{said}' with status {status}, where disprove says '{wanted}'")
+        elif status == 0:
+            self.disprove(f"{name}-hints", wanted, place("hints"))
+
     def try_both_forms(self, name, lines):
         """A proof as text and in bytes, each from a file and from a pipe."""
         empty = next((at for at, line in enumerate(lines, 1) if line == "0"), None)
@@ -206,6 +216,7 @@ class Proofs(Trial):
                 self.complain(name, f"the judge says '{said}', not '{wanted}'")
             self.disprove(f"{name}-{form}", wanted, place("proof"), *forced)
             self.disprove(f"{name}-{form}-pipe", wanted, "/dev/stdin", *forced, given=data)
+            self.annotate(f"{name}-{form}", wanted, *forced)
             self.counts[form, "from a file and from a pipe", wanted.split(" ")[0]] += 1
 
     def try_own_pipe(self, name, options):

@@ -65,8 +65,13 @@ refuse disprove cnf bytes
 for part in 1/2 2/2; do
     refuse disprove "$examples/parity.qdimacs" "$examples/parity.qrat" --part=$part
     refuse disprove cnf bytes --part=$part
+    refuse annotate cnf bytes hinted --part=$part
 done
 refuse disprove cnf bytes cert
+refuse annotate cnf bytes hinted
+refuse annotate "$examples/parity.qdimacs" "$examples/parity.qrat" hinted
+"$program" annotate cnf bytes with-hints >line
+refuse disprove cnf with-hints
 refuse disprove "$examples/parity.qdimacs" "$examples/parity.qrat" cert
 refuse apply "$examples/equivalence.qdimacs" "$examples/equivalence.qrat" out
 printf 'p cnf 2 2\na 1 0\ne 2 0\n1 2 0\n-1 -2 0\n' >formula

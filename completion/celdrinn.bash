@@ -15,7 +15,7 @@ _celdrinn() {
         simplify) kinds=fff options="--budget= --grow= --expand= --time= --plain --best --stats --force --quiet --verbose" ;;
         check) kinds=fff options="--part= --stats --quiet --verbose" ;;
         rebuild) kinds=fffff options="--stats --force --quiet --verbose" ;;
-        annotate) kinds=ffff options="--part= --stats --force --quiet --verbose" ;;
+        annotate) kinds=ffff options="--part= --stats --force --binary --quiet --verbose" ;;
         refute) kinds=fffff options="--stats --force --quiet --verbose" ;;
         extract) kinds=fff options="--stats --force --quiet --verbose" ;;
         disprove) kinds=fff options="--binary --part= --stats --force --quiet --verbose" ;;

@@ -88,7 +88,7 @@ complete -c celdrinn -n '__celdrinn_wants_option simplify solve' -a --expand= -d
 complete -c celdrinn -n '__celdrinn_wants_option simplify' -a --time= -d 'stops after so many seconds, and writes what is reached'
 complete -c celdrinn -n '__celdrinn_wants_option simplify' -a --plain -d 'leaves extended universal reduction out, over which refute carries nothing back'
 complete -c celdrinn -n '__celdrinn_wants_option check annotate disprove' -a --part= -d 'judges every Nth block of 1,000 steps, and makes the others'
-complete -c celdrinn -n '__celdrinn_wants_option disprove' -a --binary -d 'reads as a binary proof what could be a text'
+complete -c celdrinn -n '__celdrinn_wants_option annotate disprove' -a --binary -d 'reads as a binary proof what could be a text'
 complete -c celdrinn -n '__celdrinn_wants_option miter validate' -a --herbrand -d 'takes circuits of the universals'
 complete -c celdrinn -n '__celdrinn_wants_option simplify' -a --best -d 'tries large expansions beside it, for so many seconds, and keeps the better end'
 complete -c celdrinn -n '__celdrinn_wants_option validate' -a --with= -d 'asks a SAT solver, as cadical'

@@ -41,7 +41,7 @@ behind_reading() {
         rebuild | refute) echo "the circuits are carried back" ;;
         extract) echo "circuits are made" ;;
         miter) echo "clauses are made" ;;
-        check | annotate) echo "the end is compared" ;;
+        check | annotate) case $operands in *OUT*) echo "the end is compared" ;; *) echo "all is read" ;; esac ;;
         *) echo "all is read" ;;
     esac
 }

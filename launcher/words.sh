@@ -13,8 +13,16 @@ find_line() {
     return 1
 }
 
+# The options of a command, of all its lines.
+take_options() {
+    options=
+    while IFS='|' read -r first second third fourth; do
+        [ "${first% }" != "$command" ] || options="$options$third"
+    done <"$parts/words.txt"
+}
+
 # All first words of the table that begin so, for who has misspelt one.
-first_words() { sed -n -e 's/^\([a-z][a-z]*\) |.*/\1/p' -e 's/^\(--[a-z]*\).*/\1/p' "$parts/words.txt" | grep -e "$1"; }
+first_words() { sed -n -e 's/^\([a-z][a-z]*\) |.*/\1/p' -e 's/^\(--[a-z]*\).*/\1/p' "$parts/words.txt" | uniq | grep -e "$1"; }
 
 # The word of a list that is the nearest to another one, as a question, or nothing.
 did_you_mean() { awk -v given="$1" -f "$parts/nearest.awk"; }
@@ -161,6 +169,12 @@ guard() {
     esac
 }
 
+# Of `annotate` the third name is written over, where the second is a proof; who gives a formula means the other files.
+look_at_proof() {
+    case $command:$role in annotate:PROOF) ;; *) return ;; esac
+    ! is_formula "$1" || complain "'$1' is a formula, and no proof: annotate takes $(shown_lines)"
+}
+
 # The kind, the role and the default of an operand.
 divide() {
     kind=${1%"${1#?}"}
@@ -180,7 +194,7 @@ look_at_name() {
         '<:-') inputs="$inputs/" ;;
         '>:-' | '>:/dev/stdout' | '>:/dev/fd/1' | '>:/proc/self/fd/1') outputs="$outputs/" ;;
         '>:none') return ;;
-        '<:'*) look_at_read "$2" ;;
+        '<:'*) look_at_read "$2" && look_at_proof "$2" ;;
         '>:'*) look_at_written "$2" && guard "$role" "$2" ;;
     esac
     case $inputs in //*) refuse "standard input serves once" ;; esac
@@ -246,13 +260,45 @@ count_operands() {
     done
 }
 
+# Takes the line of the command that has so many names, and the first where none has.
+choose_line() {
+    while IFS='|' read -r first second third fourth; do
+        [ "${first% }" = "$command" ] || continue
+        operands=$second options=$third
+        count_operands
+        if [ "$1" -ge $least ] && [ "$1" -le $most ]; then return; fi
+    done <"$parts/words.txt"
+    find_line "$command" && operands=$second options=$third
+    count_operands
+}
+
+# What a command takes, as a user writes it, by all its lines.
+shown_lines() {
+    all=
+    while IFS='|' read -r first second third fourth; do
+        [ "${first% }" = "$command" ] && operands=$second && all="$all${all:+, or }$(shown_operands)"
+    done <"$parts/words.txt"
+    echo "$all"
+}
+
+# Whether options that stand in the call are those of other files.
+look_at_options() {
+    for option in $seen; do
+        case " $options quiet verbose " in
+            *" $option "*) ;;
+            *) complain "'--$option' is not for $command $(shown_operands)" ;;
+        esac
+    done
+}
+
 # Looks at the names of a call, and goes on with `start` and one name for each operand.
 look() {
-    count_operands
+    choose_line $#
+    look_at_options
     if [ $# -lt $least ]; then
         piped=
         case $#:$operands in 0:*'<'*) if [ -p /dev/stdin ] || [ -s /dev/stdin ]; then piped=" ('-' is standard input)"; fi ;; esac
-        refuse "$command takes $(shown_operands); see 'celdrinn help $command'$piped"
+        refuse "$command takes $(shown_lines); see 'celdrinn help $command'$piped"
     elif [ $# -gt $most ]; then
         shift $most
         many=

@@ -33,7 +33,9 @@ page() {
             print ".Nd " text
             print ".Sh SYNOPSIS"
         }
-        NR == 1 { sub(/^usage: /, ""); print ".Bd -literal"; print plain($0); print ".Ed"; print ".Sh DESCRIPTION"; is_first = 1; next }
+        NR == 1 { sub(/^usage: /, ""); print ".Bd -literal"; print plain($0); is_usage = 1; next }
+        is_usage && NF { sub(/^ +/, ""); print plain($0); next }
+        is_usage { print ".Ed"; print ".Sh DESCRIPTION"; is_usage = 0; is_first = 1; next }
         NF == 0 { blank = 1; next }
         /^ / {
             if (!is_literal) { print ".Bd -literal"; is_literal = 1 }
@@ -90,7 +92,7 @@ synopsis() {
 
 mkdir "$work/man"
 awk -v made="$(synopsis)" '/^[.]Sh DESCRIPTION/ { inside = 0 } !inside { print } /^[.]Sh SYNOPSIS/ { print made; inside = 1 }' docs/celdrinn.1 >"$work/celdrinn.1"
-sed -n 's/^\([a-z][a-z]*\) | .* | \(.*\)$/\1 \2/p' launcher/words.txt >"$work/commands"
+sed -n 's/^\([a-z][a-z]*\) | .* | \(.*\)$/\1 \2/p' launcher/words.txt | awk '!is_told[$1]++' >"$work/commands"
 while read -r command text; do
     [ -f "help/$command.txt" ] || { echo "help/$command.txt is missing" >&2 && exit 1; }
     page "$command" "$text" >"$work/man/celdrinn-$command.1"

@@ -8,7 +8,7 @@ trap 'rm -rf "$work"' EXIT
 mkdir "$work/completion" "$work/help"
 
 # The table, as lines of fields that are separated by tabs: `command WORD KINDS OPERANDS OPTIONS TEXT` and `option WORD FORM TEXT`. KINDS has a
-# letter for each operand: f for a file, n for a number.
+# letter for each operand: f for a file, n for a number. A command with several lines has them all, the longest first.
 awk '
     /^#/ || NF == 0 { next }
     { split($0, part, / *\| */) }
@@ -35,14 +35,14 @@ awk '
 options_of() {
     awk -F '\t' -v command="$1" '
         $1 == "option" { form[$2] = ($3 ~ /^=/) ? "=" : "" }
-        $1 == "command" && $2 == command { n = split($5 == "." ? "" : $5, word, " ") }
+        $1 == "command" && $2 == command { k = split($5 == "." ? "" : $5, more, " "); for (i = 1; i <= k; i++) if (!has[more[i]]++) word[++n] = more[i] }
         END {
             for (i = 1; i <= n; i++) printf "--%s%s ", word[i], form["--" word[i]]
             printf "--quiet --verbose"
         }' "$work/table"
 }
-commands() { awk -F '\t' '$1 == "command" { print $2 }' "$work/table"; }
-field() { awk -F '\t' -v command="$1" -v k="$2" '$1 == "command" && $2 == command { print $k }' "$work/table"; }
+commands() { awk -F '\t' '$1 == "command" && !is_told[$2]++ { print $2 }' "$work/table"; }
+field() { awk -F '\t' -v command="$1" -v k="$2" '$1 == "command" && $2 == command { print $k; exit }' "$work/table"; }
 all=$(commands | tr '\n' ' ')
 all=${all% }
 
@@ -99,7 +99,7 @@ _celdrinn() {
     local kinds= place=0 k
     commands=(
 END
-    awk -F '\t' '$1 == "command" { text = $6; gsub(/\047/, "", text); print "        \047" $2 ":" text "\047" }' "$work/table"
+    awk -F '\t' '$1 == "command" && !is_told[$2]++ { text = $6; gsub(/\047/, "", text); print "        \047" $2 ":" text "\047" }' "$work/table"
     cat <<'END'
         'help:prints the commands, or the options of one'
     )
@@ -182,7 +182,7 @@ complete -c celdrinn -f
 complete -c celdrinn -n __celdrinn_wants_file -F
 for where in __celdrinn_is_first __celdrinn_is_help
 END
-    awk -F '\t' '$1 == "command" { text = $6; gsub(/\047/, "", text); print "    complete -c celdrinn -n $where -a " $2 " -d \047" text "\047" }' "$work/table"
+    awk -F '\t' '$1 == "command" && !is_told[$2]++ { text = $6; gsub(/\047/, "", text); print "    complete -c celdrinn -n $where -a " $2 " -d \047" text "\047" }' "$work/table"
     cat <<'END'
 end
 complete -c celdrinn -n __celdrinn_is_help -a causes -d 'what the causes of a refusal mean'
@@ -191,7 +191,8 @@ complete -c celdrinn -n __celdrinn_is_first -l help -d 'prints the commands'
 complete -c celdrinn -n __celdrinn_is_first -l version -d 'prints the version and what it was proved with'
 END
     awk -F '\t' '
-        $1 == "command" { all = all " " $2; n = split($5 == "." ? "" : $5, word, " "); for (i = 1; i <= n; i++) of["--" word[i]] = of["--" word[i]] " " $2 }
+        $1 == "command" && !is_told[$2]++ { all = all " " $2 }
+        $1 == "command" { n = split($5 == "." ? "" : $5, word, " "); for (i = 1; i <= n; i++) if (!has[$2, word[i]]++) of["--" word[i]] = of["--" word[i]] " " $2 }
         $1 == "option" { option[++count] = $2; form[$2] = ($3 ~ /^=/) ? "=" : ""; text[$2] = $4 }
         END {
             of["--quiet"] = all; of["--verbose"] = all

@@ -1,4 +1,5 @@
 """What each command has to answer to a case, by the reference: a case is a command with its options and the files that it reads."""
+import itertools
 import os
 from collections import namedtuple
 
@@ -12,9 +13,9 @@ Case = namedtuple("Case", "verb options files fault left", defaults=[frozenset()
 Answer = namedtuple("Answer", "status line files")  # files: name -> bytes of the written ones that are there
 FOLDER = "a folder"
 
-# the commands of the launcher alone, and the word of a command that is none of the table: `disprove` with circuits
+# the commands of the launcher alone, and the words of those that are none of the table: `disprove` with circuits, `annotate` of a proof
 LAUNCHER = ("certify", "mend")
-WORDS = {"certified": "disprove"}
+WORDS = {"certified": "disprove", "shown": "annotate"}
 
 
 def operands():
@@ -25,6 +26,7 @@ def operands():
             word, _, rest = line.partition(" | ")
             if line[:1].islower() and word not in LAUNCHER:
                 names = rest.split("|")[0].split()
+                word = "shown" if word == "annotate" and "<PROOF" in names else word
                 reads[word] = [name[1:] for name in names if name[0] == "<"]
                 writes[word] = [name[1:].partition("=")[0] for name in names if name[0] == ">" and name[-1] != "="]
     return {**reads, "certified": reads["disprove"]}, {**writes, "certified": ["CERT"]}
@@ -342,14 +344,22 @@ def extract(case, answer):
     want("CERT" not in answer.files, "no CERT")
 
 
+def proof_steps(case, proof):
+    """The steps of a proof; their proof parts where these are looked at."""
+    if "--binary" in case.options or logs.is_binary(proof):
+        return logs.binary_steps(proof)
+    if not logs.is_hinted(proof):
+        return logs.text_steps(proof)
+    found = logs.hinted_steps(proof)
+    return found if case.verb == "disprove" else (hinted.step for hinted in found)
+
+
 def refuted(case):
     """The formula and what is to be said of the proof that it is false."""
     start = formula_in(case, "IN")
     if frozenset() in start.matrix:
         return start, logs.Judged(None, 0, None)  # no proof is read
-    proof = held(case, "PROOF")
-    in_bytes = "--binary" in case.options or logs.is_binary(proof)
-    judged = logs.refute(start, (logs.binary_steps if in_bytes else logs.text_steps)(proof))
+    judged = logs.refute(start, proof_steps(case, held(case, "PROOF")))
     if judged.refusal:
         raise Told(1, f"refused {judged.refusal}")
     want(not formulas.is_true(start), "a false formula")
@@ -359,6 +369,17 @@ def refuted(case):
 def disprove(case, answer):
     _, judged = refuted(case)
     raise Told(20, f"false {judged.steps}")
+
+
+def shown(case, answer):
+    start, judged = refuted(case)
+    want((answer.status, answer.line) == (0, f"annotated {judged.steps}"), f"'annotated {judged.steps}'")
+    text = written(answer, "HINTED")
+    want(logs.is_hinted(text) and len(text.splitlines()) == judged.steps + 1, "a log with hints, a line for each step")
+    again = logs.refute(start, logs.hinted_steps(text))
+    want(again.refusal is None and again.steps == judged.steps, f"a refutation of as many steps, and not {again}")
+    wanted = itertools.islice(proof_steps(case, held(case, "PROOF")) if judged.steps else [], judged.steps)
+    want([s[1:] for s in wanted] == [h.step[1:] for h in logs.hinted_steps(text)], "the steps of the proof")
 
 
 def certified(case, answer):

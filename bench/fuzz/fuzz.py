@@ -170,8 +170,12 @@ class Maker:
             files["CERT"] = self.circuits_for(text, owner)
         elif verb == "extract":
             files["TRACE"] = self.trace_for(text)
-        elif verb in ("disprove", "certified"):
+        elif verb in ("disprove", "certified", "shown"):
             files["PROOF"] = self.proof_for(text, options)
+            if self.rng.random() < 0.3:
+                hinted = self.player.play(Case("shown", list(options), dict(files), None)).files.get("HINTED")
+                files["PROOF"] = hinted if hinted is not None else files["PROOF"]
+                options[:] = options if hinted is None else []
         return files
 
     def spoil(self, files):

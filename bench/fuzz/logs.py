@@ -104,6 +104,13 @@ def read_proof(words):
     return (2, groups)
 
 
+def read_header(words):
+    for wanted in (b"p", b"qrat", b"2"):
+        if words.peek()[1] != wanted and not (wanted == b"2" and number(words.peek()[1]) == 2):
+            raise words.bad()
+        words.at += 1
+
+
 def read_hinted(words):
     """The next step with its proof part."""
     step = read_step(words)
@@ -341,10 +348,7 @@ def judge(formula, output, text, plain_alone=False, part=WHOLE):
     hinted = is_hinted(text)
     try:
         if hinted and not plain_alone:
-            for wanted in (b"p", b"qrat", b"2"):
-                if words.peek()[1] != wanted and not (wanted == b"2" and number(words.peek()[1]) == 2):
-                    raise words.bad()
-                words.at += 1
+            read_header(words)
         while not words.is_over():
             if hinted and not plain_alone:
                 found = read_hinted(words)
@@ -363,18 +367,27 @@ def judge(formula, output, text, plain_alone=False, part=WHOLE):
     return Judged(f"end cause {cause}" if cause else None, steps, run.extended)
 
 
+def cause_in_refutation(run, found):
+    """The least cause for a step, or for one with its proof part; a deletion needs no reason."""
+    if isinstance(found, Hinted):
+        cause = run.hinted_cause(found)
+        return None if found.step.kind == "d" and cause == 12 else cause
+    return run.making_cause(found) if found.kind == "d" else run.cause(found)
+
+
 def refute(formula, steps):
-    """What is said of a refutation, whose deletions need no reason: the steps, from a text or from bytes, each with its line."""
+    """What is said of a refutation: the steps, from a text or from bytes, each with its line, with proof parts or without."""
     run, count = Run(formula), 0
     try:
         while frozenset() not in run.clauses.values():
-            step = next(steps, None)
-            if step is None:
+            found = next(steps, None)
+            if found is None:
                 return Judged("end cause 11", count, None)
-            cause = run.making_cause(step) if step.kind == "d" else run.cause(step)
+            step, name = (found.step, found.name) if isinstance(found, Hinted) else (found, None)
+            cause = cause_in_refutation(run, found)
             if cause:
                 raise Refused(step.line, cause)
-            run.make(step)
+            run.make(step, name)
             count += 1
     except Refused as refused:
         return Judged(f"line {refused.refusal.line} cause {refused.refusal.cause}", count, None)
@@ -386,10 +399,7 @@ def whole_steps(text):
     words, hinted, steps = Words(text), is_hinted(text), []
     try:
         if hinted:
-            for wanted in (b"p", b"qrat", b"2"):
-                if words.peek()[1] != wanted and not (wanted == b"2" and number(words.peek()[1]) == 2):
-                    raise words.bad()
-                words.at += 1
+            read_header(words)
         while not words.is_over():
             steps.append(read_hinted(words).step if hinted else read_step(words))
     except Refused as refused:
@@ -418,6 +428,14 @@ def text_steps(text):
     words = Words(text)
     while not words.is_over():
         yield read_step(words)
+
+
+def hinted_steps(text):
+    """The same of a log with hints, with their proof parts."""
+    words = Words(text)
+    read_header(words)
+    while not words.is_over():
+        yield read_hinted(words)
 
 
 def is_binary(text):

@@ -47,7 +47,7 @@ struct celdrinn_options {
     uint64_t budget;         /* simplify, solve, validate; UINT64_MAX: none */
     uint32_t part, parts;    /* check, annotate, disprove: the part of this number, from 1, of so many; 0 parts: all */
     uint32_t herbrand;       /* miter, 1: the circuits are those of the universals */
-    uint32_t binary;         /* disprove, 1: what could be a text is read as a binary proof */
+    uint32_t binary;         /* disprove, annotate of PROOF, 1: what could be a text is read as a binary proof */
     uint64_t seed;           /* gen */
     uint32_t clauses;        /* gen: 1 to 100000 */
 };
@@ -77,6 +77,7 @@ int celdrinn_text(celdrinn *, const void *qdimacs, size_t length);
  *   rebuild   IN OUT LOG SKOLEM -> CERT   extract   IN TRACE -> CERT
  *   refute    IN OUT LOG HERBRAND -> CERT miter     IN CERT -> MITER
  *   annotate  IN OUT LOG -> HINTED        disprove  IN PROOF
+ *   annotate  IN PROOF -> HINTED          (where OUT or LOG is not there)
  *   apply     IN LOG -> OUT               gen       -> IN
  *
  * A command reads those before the arrow, and makes those behind it; what it does not make is taken away. */

@@ -22,6 +22,7 @@ static const struct command {
     {"rebuild", {IN, OUT, LOG, SKOLEM}, {CERT}, 0},
     {"refute", {IN, OUT, LOG, HERBRAND}, {CERT}, 0},
     {"annotate", {IN, OUT, LOG}, {HINTED}, PART},
+    {"annotate", {IN, PROOF}, {HINTED}, FLAG_BINARY | PART},
     {"validate", {IN, CERT}, {NO_FILE}, BUDGET},
     {"solve", {IN}, {OUT, LOG, CERT}, BUDGET},
     {"extract", {IN, TRACE}, {CERT}, 0},
@@ -238,8 +239,10 @@ static int run(celdrinn *c, const struct command *k) {
     if (status == CELDRINN_NO_MEMORY && c->limits.by) return when_stopped(c, k);
     return with_empty_log(c, k, status);
 }
+/* of a command that takes other files as well, the first whose files are there */
 int celdrinn_do(celdrinn *c, const char *command) {
+    const struct command *found = NULL;
     for (size_t i = 0; i < sizeof commands / sizeof *commands; i++)
-        if (!strcmp(commands[i].word, command)) return run(c, &commands[i]);
-    return celdrinn_misuse(c, "no such command");
+        if (!strcmp(commands[i].word, command) && (found == NULL || !are_there(found, c))) found = &commands[i];
+    return found != NULL ? run(c, found) : celdrinn_misuse(c, "no such command");
 }

@@ -33,8 +33,8 @@ Block = Tuple[str, List[int]]
 Clauses = Iterable[Iterable[int]]
 Prefix = Sequence[Tuple[str, Iterable[int]]]
 
-__all__ = ["simplify", "check", "rebuild", "refute", "annotate", "validate", "solve", "apply", "extract", "disprove", "miter", "generate",
-           "read", "write", "Simplified", "Certificate",
+__all__ = ["simplify", "check", "rebuild", "refute", "annotate", "validate", "solve", "apply", "extract", "disprove",
+           "annotate_proof", "miter", "generate", "read", "write", "Simplified", "Certificate",
            "CeldrinnError", "FormulaError", "LogError", "CircuitError", "OutOfMemory", "Stopped", "NotFound", "version"]
 
 
@@ -214,14 +214,19 @@ class _Answer:
         raise _ERRORS.get(self.status, CeldrinnError)(self.line or f"status {self.status}", self.status)
 
 
-# Which files a command takes, in the order of its words, and which it makes. Those of `gen` stand behind two numbers.
+# Which files a command takes, in the order of its words, and which it makes. Those of `gen` stand behind two numbers; what stands behind the
+# verb tells apart what else it can take.
 _TAKES = {"simplify": ["IN"], "check": ["IN", "OUT", "LOG"], "rebuild": ["IN", "OUT", "LOG", "SKOLEM"],
           "refute": ["IN", "OUT", "LOG", "HERBRAND"], "annotate": ["IN", "OUT", "LOG"], "validate": ["IN", "CERT"], "solve": ["IN"],
-          "extract": ["IN", "TRACE"], "disprove": ["IN", "PROOF"], "miter": ["IN", "CERT"], "apply": ["IN", "LOG"],
-          "gen": []}
-_MAKES = {"simplify": ["OUT", "LOG"], "rebuild": ["CERT"], "refute": ["CERT"], "annotate": ["HINTED"], "solve": ["OUT", "LOG", "CERT"],
-          "extract": ["CERT"], "miter": ["MITER"], "apply": ["OUT"], "gen": ["IN"]}
+          "extract": ["IN", "TRACE"], "disprove": ["IN", "PROOF"], "annotate PROOF": ["IN", "PROOF"], "miter": ["IN", "CERT"],
+          "apply": ["IN", "LOG"], "gen": []}
+_MAKES = {"simplify": ["OUT", "LOG"], "rebuild": ["CERT"], "refute": ["CERT"], "annotate": ["HINTED"], "annotate PROOF": ["HINTED"],
+          "solve": ["OUT", "LOG", "CERT"], "extract": ["CERT"], "miter": ["MITER"], "apply": ["OUT"], "gen": ["IN"]}
 _SCALE = ["seed", "clauses"]
+
+
+def _word(verb: str) -> str:
+    return verb.split()[0]
 
 
 def _words(verb: str, options: Mapping[str, int]) -> List[str]:
@@ -243,7 +248,7 @@ class _Program:
                 with open(os.path.join(folder, name), "wb") as it:
                     it.write(text)
             try:
-                done = subprocess.run([self.path, verb, *_words(verb, options)], cwd=folder, stdin=subprocess.DEVNULL, stdout=subprocess.PIPE,
+                done = subprocess.run([self.path, _word(verb), *_words(verb, options)], cwd=folder, stdin=subprocess.DEVNULL, stdout=subprocess.PIPE,
                                       stderr=subprocess.DEVNULL, timeout=seconds, env={**os.environ, "CELDRINN_PROGRESS": "0"})
             except subprocess.TimeoutExpired:
                 return _Answer(6, "stopped: time is over", {})
@@ -314,14 +319,14 @@ class _Library:
 
     def _work(self, handle: int, verb: str) -> int:
         if threading.current_thread() is not threading.main_thread():
-            return self._call("do", handle, verb.encode())
+            return self._call("do", handle, _word(verb).encode())
         # An Event, since Thread.join says of a thread that it ended where a signal interrupts it (CPython 3.10 to 3.12 at least).
         answer: List[int] = []
         done = threading.Event()
 
         def work() -> None:
             try:
-                answer.append(self._call("do", handle, verb.encode()))
+                answer.append(self._call("do", handle, _word(verb).encode()))
             finally:
                 done.set()
 
@@ -518,6 +523,11 @@ def apply(source: bytes, log: bytes, *, seconds: Optional[float] = None) -> byte
 def disprove(source: bytes, proof: bytes, *, binary: bool = False, seconds: Optional[float] = None) -> int:
     """The number of steps after which a SAT solver's proof, or a log, has shown that the formula is false; LogError where it doesn't."""
     return int(_run("disprove", [source, proof], seconds, binary=binary).wanted(20).line.split()[1])
+
+
+def annotate_proof(source: bytes, proof: bytes, *, binary: bool = False, seconds: Optional[float] = None) -> bytes:
+    """The same proof up to the empty clause as a log with hints, which `disprove` reads without a search; LogError where it shows nothing."""
+    return _run("annotate PROOF", [source, proof], seconds, binary=binary).wanted(0).files["HINTED"]
 
 
 def miter(source: bytes, cert: Circuits, *, herbrand: bool = False, seconds: Optional[float] = None) -> List[List[int]]:

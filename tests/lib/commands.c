@@ -107,6 +107,21 @@ static void play_proofs(void) {
     PASS();
 }
 
+static void play_hints_of_proofs(void) {
+    row = "annotate: a proof with hints, and none";
+    size_t n;
+    celdrinn *c = with("p cnf 3 2\na 1 0\ne 2 3 0\n1 0\n2 3 0\n");
+    WANT(c != NULL && celdrinn_do(c, "annotate") == CELDRINN_USAGE);
+    WANT(put(c, "PROOF", "d 2 3 0\nu 1 0\nx\n") == 0 && celdrinn_do(c, "annotate") == 0 && strcmp(celdrinn_line(c), "annotated 2") == 0);
+    WANT(holds_text(c, "HINTED", "p qrat 2\nd 2 3 0 2 1 0\nu 1 0 1 3 0\n"));
+    const char *hinted = celdrinn_get(c, "HINTED", &n);
+    WANT(celdrinn_put(c, "PROOF", hinted, n) == 0 && celdrinn_do(c, "disprove") == CELDRINN_FALSE && strcmp(celdrinn_line(c), "false 2") == 0);
+    WANT(put(c, "PROOF", "d 2 3 0\n") == 0 && celdrinn_do(c, "annotate") == CELDRINN_REFUSED && !is_there(c, "HINTED"));
+    WANT(strcmp(celdrinn_line(c), "refused end cause 11") == 0);
+    celdrinn_free(c);
+    PASS();
+}
+
 static void play_traces(void) {
     row = "extract: circuits of a trace, or that it says nothing";
     celdrinn *c = with(SAME);
@@ -276,6 +291,7 @@ void play_commands(void) {
     play_annotate();
     play_apply();
     play_proofs();
+    play_hints_of_proofs();
     play_traces();
     play_miter();
     play_refute();

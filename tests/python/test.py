@@ -147,6 +147,9 @@ def play_commands():
         assert call(celdrinn.extract, same, b"p qrp 2 2\na 1 0\ne 2 0\nr UNKNOWN\n") == (None, None), "unknown"
         assert call(celdrinn.disprove, b"p cnf 1 2\n1 0\n-1 0\n", b"0\n") == 1, "disprove"
         assert call(celdrinn.disprove, b"p cnf 1 2\n1 0\n-1 0\n", b"a\0", binary=True) == 1, "binary"
+        hinted = call(celdrinn.annotate_proof, b"p cnf 3 2\na 1 0\ne 2 3 0\n1 0\n2 3 0\n", b"d 2 3 0\nu 1 0\nx\n")
+        assert hinted == b"p qrat 2\nd 2 3 0 2 1 0\nu 1 0 1 3 0\n", "hints of a proof"
+        assert len(call(celdrinn.annotate_proof, b"p cnf 1 2\n1 0\n-1 0\n", b"a\0", binary=True).splitlines()) == 2, "hints of a binary proof"
         assert not has_model(call(celdrinn.miter, differ, inverse)) and has_model(call(celdrinn.miter, differ, equal)), "miter"
         assert call(celdrinn.apply, differ, b"d 2 1 0\n") == b"p cnf 2 1\na 1 0\ne 2 0\n-1 -2 0\n", "apply"
         refuted = call(celdrinn.simplify, false)

@@ -8,6 +8,7 @@ const std::vector<Shape> &shapes() {
         {"simplify", {"IN"}, {"OUT", "LOG"}, {"budget", "grow", "expand", "plain", "time"}},
         {"check", {"IN", "OUT", "LOG"}, {}, {"part"}},
         {"rebuild", {"IN", "OUT", "LOG", "SKOLEM"}, {"CERT"}, {}},
+        {"shown", {"IN", "PROOF"}, {"HINTED"}, {"binary", "part"}, "annotate"},
         {"annotate", {"IN", "OUT", "LOG"}, {"HINTED"}, {"part"}},
         {"refute", {"IN", "OUT", "LOG", "HERBRAND"}, {"CERT"}, {}},
         {"extract", {"IN", "TRACE"}, {"CERT"}, {}},
@@ -87,28 +88,31 @@ static bool take_options(Call &call, const Shape &shape, const std::vector<Bytes
     return true;
 }
 
-std::optional<Call> call_of(const std::vector<Bytes> &words) {
-    if (words.empty()) return {};
-    const Shape *shape = shape_of(words[0]);
-    if (!shape) return {};
+static std::optional<Call> call_by(const Shape &shape, const std::vector<Bytes> &words) {
     Call call;
-    call.verb = words[0];
+    call.verb = shape.verb;
     size_t at = 1;
-    if (shape->reads.empty()) {
+    if (shape.reads.empty()) {
         if (words.size() < 3 || !bounded(words[1], 0, UINT64_MAX, call.seed) || !bounded(words[2], 1, 100000, call.size)) return {};
         at = 3;
     }
-    const size_t names = shape->reads.size() + shape->makes.size();
+    const size_t names = shape.reads.size() + shape.makes.size();
     if (words.size() < at + names) return {};
-    for (size_t i = 0; i < names; i++, at++) (i < shape->reads.size() ? call.reads : call.makes).push_back(words[at]);
+    for (size_t i = 0; i < names; i++, at++) (i < shape.reads.size() ? call.reads : call.makes).push_back(words[at]);
     /* a proof from which circuits are made is another call, which is not shared */
     const bool has_cert = call.verb == "disprove" && at < words.size() && words[at].substr(0, 2) != "--";
     if (has_cert) call.makes.push_back(words[at++]);
-    if (!take_options(call, *shape, words, at) || (has_cert && call.parts)) return {};
+    if (!take_options(call, shape, words, at) || (has_cert && call.parts)) return {};
     std::vector<Bytes> all = call.reads;
     all.insert(all.end(), call.makes.begin(), call.makes.end());
-    if (has_cert && std::any_of(all.begin(), all.end(), [](const Bytes &name) { return name.substr(0, 2) == "--"; })) return {};
+    if ((has_cert || shape.other) && std::any_of(all.begin(), all.end(), [](const Bytes &name) { return name.substr(0, 2) == "--"; })) return {};
     std::sort(all.begin(), all.end());
     if (std::adjacent_find(all.begin(), all.end()) != all.end()) return {};
     return call;
+}
+std::optional<Call> call_of(const std::vector<Bytes> &words) {
+    for (const Shape &shape : shapes())
+        if (!words.empty() && words[0] == shape.word())
+            if (auto call = call_by(shape, words)) return call;
+    return {};
 }

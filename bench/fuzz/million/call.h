@@ -39,6 +39,8 @@ struct Shape {
     const char *verb;
     std::vector<const char *> reads, makes;
     std::vector<const char *> options; /* without `--` and what is behind `=` */
+    const char *other = nullptr;       /* the word of the command, where it is not the verb */
+    const char *word() const { return other ? other : verb; }
 };
 const std::vector<Shape> &shapes();
 const Shape *shape_of(const Bytes &verb);

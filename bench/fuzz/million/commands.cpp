@@ -37,6 +37,7 @@ class Judging {
     void judge() {
         static const std::map<Bytes, void (Judging::*)()> all = {
             {"simplify", &Judging::simplify}, {"check", &Judging::check},   {"annotate", &Judging::annotate},
+            {"shown", &Judging::shown},
             {"rebuild", &Judging::rebuild},   {"refute", &Judging::refute}, {"validate", &Judging::validate},
             {"miter", &Judging::miter},       {"solve", &Judging::solve},   {"extract", &Judging::extract},
             {"disprove", &Judging::disprove}, {"apply", &Judging::apply},   {"gen", &Judging::gen},
@@ -267,23 +268,24 @@ class Judging {
         want(answer_.status == 0 && answer_.line == line, "'" + line + "'");
         if (!is_told(0)) return;
         const Bytes &text = made(0);
-        if (part().number > 1 || part().parts > 1) { /* the lines of a part are no whole log */
-            const std::vector<View> lines = lines_with_ends(text);
-            want(lines.size() == log.judged.steps + (part().number == 1), "a line for each step of the part");
-            want((!lines.empty() && lines[0] == "p qrat 2\n") == (part().number == 1), "the header in the first part");
-            if (call_.parts > MOST_JOINED) return;
-            const Bytes whole = joined();
-            if (!whole.empty()) want_hints(log, whole);
-            return;
-        }
-        want_hints(log, text);
+        const Bytes whole = whole_of(text, log.judged.steps);
+        if (!whole.empty()) want_hints(log, whole);
+    }
+    /* what all parts make of it, which is as it is where there are no parts; nothing where another part is refused */
+    Bytes whole_of(const Bytes &text, uint64_t steps) const {
+        if (part().parts == 1) return text;
+        /* the lines of a part are no whole log */
+        const std::vector<View> lines = lines_with_ends(text);
+        want(lines.size() == steps + (part().number == 1), "a line for each step of the part");
+        want((!lines.empty() && lines[0] == "p qrat 2\n") == (part().number == 1), "the header in the first part");
+        return call_.parts > MOST_JOINED ? Bytes() : joined();
     }
     static constexpr uint64_t MOST_JOINED = 8;
     void want_hints(const Checked &log, const Bytes &text) {
         want(is_hinted(text), "a log with hints");
         const Judged judged = ::judge(log.start, log.end, text, Profile::Any);
         want(judged.refusal.empty(), "a right log with hints, which is refused: " + judged.refusal);
-        want(has_steps_of(held(2), text) && is_canonical_log(text, true), "the steps of LOG, in their canonical text");
+        want(has_steps_of(*text_steps(held(2)), text) && is_canonical_log(text, true), "the steps of LOG, in their canonical text");
         notes_.seen.push_back(call_.parts ? "hints of all parts verified together" : "hints verified");
     }
     /* the header, and 1,000 lines of each part in turn; nothing where another part is refused */
@@ -293,7 +295,8 @@ class Judging {
         for (uint64_t number = 1; number <= call_.parts; number++) {
             Case other = case_;
             other.fault = Fault();
-            other.words.back() = "--part=" + std::to_string(number) + "/" + std::to_string(call_.parts);
+            for (Bytes &word : other.words)
+                if (word.substr(0, 7) == "--part=") word = "--part=" + std::to_string(number) + "/" + std::to_string(call_.parts);
             const Answer answer = play(other);
             auto file = answer.made.find(call_.makes[0]);
             if (answer.status != 0) return "";
@@ -337,14 +340,41 @@ class Judging {
         if (is_told(0)) want(Run(applied.formula).cause_at_end(made_formula(0)) == 0, "the formula behind the steps");
         throw Told{0, "applied " + number(applied.steps) + (applied.broken ? " broken line " + number(applied.broken) : "")};
     }
+    std::unique_ptr<Steps> proof_steps() const {
+        const Bytes &proof = held(1);
+        if (call_.binary || is_binary(proof)) return binary_steps(proof);
+        return is_hinted(proof) ? hinted_steps(proof) : text_steps(proof);
+    }
+    /* whether proof parts are looked at */
+    bool looks_at_hints(bool has_cert) const {
+        return !call_.binary && !is_binary(held(1)) && is_hinted(held(1)) && !has_cert && !call_.parts;
+    }
+    /* a proof with hints, or a part of it */
+    void shown() {
+        const Formula start = formula_in(0, "IN");
+        Judged judged;
+        if (!has_empty_clause(start)) judged = ::refute(start, *proof_steps(), part());
+        count_steps(judged);
+        if (!judged.refusal.empty()) throw Told{1, "refused " + judged.refusal};
+        const Bytes line = "annotated " + number(judged.steps);
+        want(answer_.status == 0 && answer_.line == line, "'" + line + "'");
+        if (!is_told(0)) return;
+        const Bytes whole = whole_of(made(0), judged.steps);
+        if (!whole.empty()) want_refutation(start, whole);
+    }
+    void want_refutation(const Formula &start, const Bytes &text) {
+        want(is_hinted(text) && is_canonical_log(text, true), "a log with hints, in its canonical text");
+        const Judged judged = ::refute(start, *hinted_steps(text), {}, false, true);
+        want(judged.refusal.empty(), "a refutation by hints, which is refused: " + judged.refusal);
+        want(has_steps_of(*proof_steps(), text, judged.steps), "the steps of PROOF up to the empty clause, and none behind");
+        notes_.seen.push_back(call_.parts ? "hints of all parts of a proof verified together" : "hints of a proof verified");
+    }
     void disprove() {
         const Formula start = formula_in(0, "IN");
         const bool has_cert = !call_.makes.empty();
         Judged judged;
         if (!has_empty_clause(start)) {
-            const Bytes &proof = held(1);
-            const auto steps = call_.binary || is_binary(proof) ? binary_steps(proof) : text_steps(proof);
-            judged = ::refute(start, *steps, part(), has_cert);
+            judged = ::refute(start, *proof_steps(), part(), has_cert, looks_at_hints(has_cert));
             count_steps(judged);
             if (!judged.refusal.empty()) throw Told{1, "refused " + judged.refusal};
         }
@@ -442,7 +472,7 @@ bool has_files_behind_refusals(const Call &call, const Answer &answer) {
 bool is_done(int status) { return status == 0 || status == 10 || status == 20; }
 
 Bytes kind_of(const Case &what, const Call &call) {
-    Bytes kind = call.verb;
+    Bytes kind = call.verb == "shown" ? "annotate PROOF" : call.verb;
     if (call.parts) kind += " --part";
     if (call.binary) kind += " --binary";
     if (call.herbrand) kind += " --herbrand";

@@ -91,7 +91,7 @@ Judged judge(const Formula &input, const Formula &output, View log, Profile prof
     return std::move(judge.judged);
 }
 
-Judged refute(const Formula &input, Steps &steps, Part part, bool keeps_trail) {
+Judged refute(const Formula &input, Steps &steps, Part part, bool keeps_trail, bool has_hints) {
     Judge judge(input, part, keeps_trail);
     try {
         Step step;
@@ -100,7 +100,8 @@ Judged refute(const Formula &input, Steps &steps, Part part, bool keeps_trail) {
                 judge.judged.refusal = at_end(11);
                 break;
             }
-            if (!judge.take(step, false, true)) break;
+            if (!has_hints) step.number = 0; /* its clause is the one with these literals */
+            if (!judge.take(step, has_hints, true)) break;
         }
     } catch (const Refused &refused) {
         judge.judged.refusal = at_line(refused.line, refused.cause);

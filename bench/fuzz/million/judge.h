@@ -28,8 +28,8 @@ struct Judged {
 
 enum class Profile { Plain, Any };
 Judged judge(const Formula &input, const Formula &output, View log, Profile profile, Part part = {}, bool keeps_trail = false);
-/* steps up to the empty clause, of which deletions need no reason */
-Judged refute(const Formula &input, Steps &steps, Part part = {}, bool keeps_trail = false);
+/* steps up to the empty clause, of which deletions need no reason; with or without a look at proof parts */
+Judged refute(const Formula &input, Steps &steps, Part part = {}, bool keeps_trail = false, bool has_hints = false);
 
 struct Applied {
     Bytes refusal;

@@ -35,10 +35,10 @@ bool is_canonical_log(View text, bool has_hints) {
     return canonical == text;
 }
 
-bool has_steps_of(View log, View hinted) {
-    const auto steps = text_steps(log), others = hinted_steps(hinted);
+bool has_steps_of(Steps &steps, View hinted, uint64_t most) {
+    const auto others = hinted_steps(hinted);
     Step step, other;
-    while (steps->next(step))
+    for (uint64_t count = 0; count < most && steps.next(step); count++)
         if (!others->next(other) || step_alone(step) != step_alone(other)) return false;
     return !others->next(other);
 }

@@ -6,5 +6,5 @@
 Bytes canonical_text(const Step &step);
 /* throws Refused where the text is no log */
 bool is_canonical_log(View text, bool has_hints);
-/* whether the second log, with hints, has the steps of the first */
-bool has_steps_of(View log, View hinted);
+/* whether the log with hints has all these steps, or so many of them */
+bool has_steps_of(Steps &steps, View hinted, uint64_t most = UINT64_MAX);

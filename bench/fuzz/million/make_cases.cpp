@@ -6,6 +6,7 @@
 #include "make_larger.h"
 #include "making.h"
 #include "tables.h"
+#include <algorithm>
 
 namespace {
 
@@ -13,7 +14,7 @@ struct Weight {
     const char *verb;
     size_t weight;
 };
-const Weight WEIGHTS[] = {{"simplify", 12}, {"check", 18},  {"annotate", 7}, {"rebuild", 9}, {"refute", 9}, {"validate", 11}, {"miter", 6},
+const Weight WEIGHTS[] = {{"simplify", 12}, {"check", 18},  {"annotate", 7}, {"shown", 7}, {"rebuild", 9}, {"refute", 9}, {"validate", 11}, {"miter", 6},
                           {"solve", 6},     {"extract", 9}, {"disprove", 9}, {"apply", 7},   {"gen", 1},    {"demo", 1}};
 
 class Maker {
@@ -24,7 +25,7 @@ class Maker {
         choose_options(shape);
         if (!shape.reads.empty()) right_files();
         if (!shape.reads.empty() && chance_.odds(0.5)) spoil();
-        case_.words = {verb_};
+        case_.words = {shape.word()};
         if (shape.reads.empty()) case_.words.insert(case_.words.end(), {std::to_string(seed_), std::to_string(size_)});
         for (const char *name : shape.reads) case_.words.push_back(name);
         for (const char *name : shape.makes) case_.words.push_back(name);
@@ -109,7 +110,7 @@ class Maker {
         if (role == "validate") case_.files["CERT"] = circuits_of(start_, 'e');
         if (role == "miter") case_.files["CERT"] = circuits_of(start_, is_herbrand_ ? 'a' : 'e');
         if (role == "extract") case_.files["TRACE"] = some_trace(chance_, start_);
-        if (role == "disprove") case_.files["PROOF"] = proof();
+        if (role == "disprove" || role == "shown") case_.files["PROOF"] = proof(), with_hints();
     }
     Formula formula_of(const Bytes &name) { return read_formula(case_.files[name]); }
     Bytes circuits_of(const Formula &formula, char owner) {
@@ -154,6 +155,18 @@ class Maker {
         return is_in_bytes ? in_bytes(log) : log;
     }
 
+    /* the proof may be one that `annotate` wrote */
+    void with_hints() {
+        if (chance_.odds(0.7)) return;
+        std::vector<Bytes> words{"annotate", "IN", "PROOF", "HINTED"};
+        const auto flag = std::find(options_.begin(), options_.end(), "--binary");
+        if (flag != options_.end()) words.push_back("--binary");
+        const Bytes hinted = made_by(words, "HINTED");
+        if (hinted.empty()) return;
+        case_.files["PROOF"] = hinted;
+        if (flag != options_.end()) options_.erase(flag);
+    }
+
     /* --- mistakes --- */
     /* the last file in the order of the command is the one that says most */
     void spoil() {
@@ -171,6 +184,8 @@ class Maker {
         if (name == "LOG")
             text = is_hinted(text) ? (chance_.coin() ? spoiled_numbers(chance_, text) : spoiled(chance_, text))
                                    : spoiled_log(chance_, text, start_);
+        else if (name == "PROOF" && is_hinted(text))
+            text = chance_.coin() ? spoiled_numbers(chance_, text) : spoiled(chance_, text);
         else if (name == "PROOF")
             text = is_binary(text) || chance_.odds(0.1) ? spoiled_bytes(chance_, text) : spoiled_log(chance_, text, start_);
         else text = chance_.odds(0.3) ? spoiled_numbers(chance_, text) : spoiled(chance_, text);

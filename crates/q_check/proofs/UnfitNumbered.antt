@@ -2,15 +2,15 @@
 use Rattle.std.proofs.Common.{◌≡◌, ◌∷◌, [], ℕ, Bool, Option, Some, None, inl, inr, arith, refl, Ok, Err}
 use Rattle.q_logic.specs.declared.limits.Limits.{Limits}
 use Rattle.q_logic.specs.declared.proof_part.ProofKind.TheVariants.{Nothing}
-use Rattle.q_logic.specs.Prelude.{Literal, Clause, NumberedFormula, ProofPart, IsIn, plain, slot, set_slot, live, without, add, delete, drop_literal, fresh, remove_variable, Within, KeepsLimits}
+use Rattle.q_logic.specs.Prelude.{ProofStep, Literal, Clause, NumberedFormula, ProofPart, IsIn, plain, slot, set_slot, live, without, add, delete, drop_literal, fresh, remove_variable, Within, KeepsLimits}
 use Rattle.q_judge.specs.declared.undo.Undo.{Undo}
 use Rattle.q_judge.specs.declared.error.CheckError.{CheckError}
 use Rattle.q_judge.specs.declared.error.CheckError.TheVariants.{Refused, NoMemory}
 use Rattle.q_same_steps.specs.Making.{Unfit}
 use Rattle.q_same_steps.specs.HintedMaking.{HintedUnfit}
 use Rattle.q_check.specs.HintChecks.{IsHintTried}
-use Rattle.q_check.specs.Annotations.{IsAnnotated}
-use Rattle.q_check.specs.Replays.{IsHintMade, IsNumberedStep, IsNumberedMade}
+use Rattle.q_check.specs.Annotations.{IsAnnotated, implied_part}
+use Rattle.q_check.specs.Replays.{IsHintMade, IsNumberedStep, IsNumberedMade, IsDeletionNamed, IsUnfitFor}
 
 module _ (m : Limits) (F : NumberedFormula) (p : Option Literal) (C : Clause) (t : ProofPart) where
   pub add-unbound : (Within F.prefix C → ⊥) → HintedUnfit m F (add p C) t 2
@@ -79,15 +79,30 @@ module _ (m : Limits) (F : NumberedFormula) where
   pub drop-unfound : (j : Literal) (C : Clause) → Within F.prefix C → (IsIn C (live F.slots) → ⊥) → Unfit m (plain F) (drop_literal j C) 3
   drop-unfound j C h n = record { applies = inr (refl, n); least = λ k l w. elim w [ inl a ↦ a.1 h | inr a ↦ let e = a.0 in omega arith ] }
 
-  pub delete-named : (p : Option Literal) (C : Clause) (n : ℕ) → Within F.prefix C → slot F.slots n ≡ Some C →
-      IsNumberedStep m F (delete p C) (record { prefix = F.prefix; slots = set_slot n None F.slots })
-  delete-named p C n h x = record { proof = numbered n; fits = (h, x); after = refl }
+  pub deletion-named : (p : Option Literal) (C : Clause) (n : ℕ) → Within F.prefix C → slot F.slots n ≡ Some C →
+      IsDeletionNamed m F (delete p C) (record { prefix = F.prefix; slots = set_slot n None F.slots }) (Ok (implied_part n []))
+  deletion-named p C n h x = ((h, x), refl, refl)
 
   pub drop-named : (j : Literal) (C R : Clause) (n : ℕ) → R ≡ without j C → Within F.prefix C → slot F.slots n ≡ Some C →
       IsNumberedStep m F (drop_literal j C) (record { prefix = F.prefix; slots = set_slot n (Some R) F.slots })
   drop-named j C R n r h x = rw r (record { proof = numbered n; fits = (h, x); after = refl })
 
   module _ (G : NumberedFormula) where
+    pub delete-named : (p : Option Literal) (C : Clause) (t : ProofPart) → IsDeletionNamed m F (delete p C) G (Ok t) → IsNumberedMade m F (delete p C) G (Ok tt)
+    delete-named p C t h = record { proof = t; fits = h.0; after = h.1 }
+
+    pub delete-unmade : (p : Option Literal) (C : Clause) (e : CheckError) → IsDeletionNamed m F (delete p C) G (Err e) → IsNumberedMade m F (delete p C) G (Err e)
+    delete-unmade p C (Refused n) h = h
+    delete-unmade p C NoMemory h = h
+
+    pub deletion-refused : (s : ProofStep) (e : CheckError) → IsDeletionNamed m F s G (Err e) → IsUnfitFor m (plain F) s e
+    deletion-refused s (Refused n) h = h.1
+    deletion-refused s NoMemory h = tt
+
+    pub deletion-same : (s : ProofStep) (e : CheckError) → IsDeletionNamed m F s G (Err e) → G ≡ F
+    deletion-same s (Refused n) h = h.0
+    deletion-same s NoMemory h = h
+
     pub fresh-named : (v w : ℕ) (t : ProofPart) → IsAnnotated m F (fresh v w) G (Ok t) → IsNumberedMade m F (fresh v w) G (Ok tt)
     fresh-named v w t h = record { proof = t; fits = h.0; after = h.1 }
 

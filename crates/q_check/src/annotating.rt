@@ -1,16 +1,17 @@
 //! The steps of a log without hints: each is judged on a numbered formula, taken where it is valid, and shown by a
 //! proof part. A refusal carries the least cause, and leaves the formula as it was.
-ghost use Rattle.std.specs.Prelude.{◌≡◌, ◌<◌, ◌≤◌, ◌^◌};
-ghost use Rattle.q_logic.specs.Prelude.{IsIn, AreModerate, IsBelow, ArePairs, without, IsFirst, add, delete, drop_literal, fresh, remove_variable};
+ghost use Rattle.std.specs.Prelude.{◌≡◌, ◌<◌, ◌≤◌, ◌^◌, Option};
+ghost use Rattle.q_logic.specs.Prelude.{IsIn, Literal, AreModerate, IsBelow, ArePairs, without, IsFirst, add, delete, drop_literal, fresh, remove_variable};
 ghost use Rattle.q_logic.specs.declared.limits.Limits.{Limits as AnyLimits};
 ghost use Rattle.q_check.specs.Annotations.{IsAnnotated};
+ghost use Rattle.q_check.specs.Replays.{IsDeletionNamed};
 
 use crate::named::{Cut, Named};
 use crate::numbered::NumberedBook;
 use crate::rows::HintRows;
 use crate::showing::{show, show_drop};
 use q_judge::{Cause, CheckError, binds_all, takes_fresh};
-use q_logic::{Limits, Proof, ProofKind};
+use q_logic::{Limits, Lit, Proof, ProofKind};
 use std::alloc::Global;
 
 /// A clause comes.
@@ -56,6 +57,25 @@ pub fn delete(
     let proof = show(book, rows, Some(number), named)?;
     book.delete(number, named.clause);
     Ok(proof)
+}
+
+/// A clause goes, for whatever reason. The proof part names it, and shows nothing.
+pub fn delete_named(
+    alloc: Global,
+    book: &mut NumberedBook,
+    clause: &[Lit],
+) -> Result<Proof, CheckError>
+    ensures { (m : AnyLimits) → (p : Option Literal) →
+        IsDeletionNamed m book.old (delete p clause.now) book.new result }
+{
+    if !binds_all(book.scope(), clause) {
+        return Err(Cause::Unbound.refusal());
+    }
+    let Some(number) = book.find(clause) else {
+        return Err(Cause::NoClause.refusal());
+    };
+    book.delete(number, clause);
+    Ok(Proof::new(alloc, ProofKind::Implied, number as u64))
 }
 
 /// A clause loses a literal.

@@ -1,14 +1,17 @@
 //! The annotator: it takes the steps that the checker takes, and gives each the proof part that shows it. So a log is
 //! checked once with search, and later by its hints alone.
-ghost use Rattle.std.specs.Prelude.{◌≡◌, ◌<◌, ◌+◌, ◌^◌, IfOk, IfErr, OnOk, OnErr};
-ghost use Rattle.q_logic.specs.Prelude.{begun, plain, HintedValid, hinted_after, AreModerate, SameFormula};
+ghost use Rattle.std.specs.Prelude.{◌≡◌, ◌<◌, ◌+◌, ◌^◌, [], IfOk, IfErr, OnOk, OnErr};
+ghost use Rattle.q_logic.specs.Prelude.{begun, plain, kind_of, HintedValid, hinted_after, AreModerate, SameFormula};
+ghost use Rattle.q_logic.specs.declared.limits.Limits.{Limits as AnyLimits};
+ghost use Rattle.q_logic.specs.declared.steps.Kind.TheVariants.{Delete};
+ghost use Rattle.q_same_steps.specs.HintedMaking.{HintedApplies};
 ghost use Rattle.q_judge.specs.Tried.{IsEndRefusal};
 ghost use Rattle.q_judge.specs.declared.error.CheckError.TheVariants.{NoMemory as MemoryError};
-ghost use Rattle.q_check.specs.Annotations.{HasForm, IsAnnotated};
+ghost use Rattle.q_check.specs.Annotations.{HasForm, IsAnnotated, implied_part};
 ghost use Rattle.q_check.specs.Checked.{IsRefusal};
-ghost use Rattle.q_check.specs.Replays.{IsNumberedStep, IsUnfitFor};
+ghost use Rattle.q_check.specs.Replays.{IsDeletionNamed, IsNumberedStep, IsUnfitFor};
 
-use crate::annotating::{add, delete, drop_literal, fresh, remove};
+use crate::annotating::{add, delete, delete_named, drop_literal, fresh, remove};
 use crate::named::{Cut, Named};
 use crate::named_passing::make;
 use crate::numbered::NumberedBook;
@@ -82,6 +85,26 @@ impl Annotator {
         Ok(proof)
     }
 
+    /// Makes a deletion, for whatever reason, and answers a proof part that names its clause and shows nothing. After an error the annotator
+    /// is as before.
+    pub fn delete(&mut self, step: &Step) -> Result<Proof, CheckError>
+        requires few { self.old.steps < 2 ^ 61 }
+        requires deletion { kind_of step.now ≡ Delete }
+        ensures named { IfOk result (HintedApplies self.old.limits self.old.formula step.now) }
+        ensures after { IfOk result (λ t. self.new.formula ≡ hinted_after self.old.formula step.now
+            t) }
+        ensures form { IfOk result (λ t. t ≡ implied_part t.number []) }
+        ensures limits { self.new.limits ≡ self.old.limits }
+        ensures steps { OnOk result (self.new.steps ≡ self.old.steps + 1) }
+        ensures refused { IfErr result (IsUnfitFor self.old.limits (plain self.old.formula)
+            step.now) }
+        ensures unchanged { OnErr result (self.new ≡ self.old) }
+    {
+        let proof = name_deleted(&mut self.book, &mut self.rows, step)?;
+        self.steps += 1;
+        Ok(proof)
+    }
+
     /// Makes the step if it can be made, and shows nothing: another one does. The clauses have the numbers that they have where the step is
     /// shown. After an error the annotator is as before.
     pub fn pass(&mut self, step: &Step) -> Result<(), CheckError>
@@ -144,4 +167,18 @@ fn annotate(
         Kind::Fresh => fresh(hints.alloc, book, limits, lits[0].var(), lits[1].var()),
         Kind::Remove => remove(hints.alloc, book, lits[0].var()),
     }
+}
+
+// Makes the deletion on the formula, and names its clause.
+fn name_deleted(
+    book: &mut NumberedBook,
+    rows: &mut StepRows,
+    step: &Step,
+) -> Result<Proof, CheckError>
+    requires { kind_of step.now ≡ Delete }
+    ensures { (m : AnyLimits) → IsDeletionNamed m book.old step.now book.new result }
+{
+    let StepRows { clause, hints, .. } = rows;
+    load_clause(clause, step.lits())?;
+    delete_named(hints.alloc, book, clause)
 }

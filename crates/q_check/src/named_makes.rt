@@ -29,17 +29,11 @@ pub fn add(book: &mut NumberedBook, limits: Limits, clause: &[Lit]) -> Result<()
 }
 
 /// A clause goes.
-pub fn delete(book: &mut NumberedBook, clause: &[Lit]) -> Result<(), CheckError>
+pub fn delete(alloc: Global, book: &mut NumberedBook, clause: &[Lit]) -> Result<(), CheckError>
     ensures { (m : AnyLimits) → (p : Option Literal) →
         IsNumberedMade m book.old (delete p clause.now) book.new result }
 {
-    if !binds_all(book.scope(), clause) {
-        return Err(Cause::Unbound.refusal());
-    }
-    let Some(number) = book.find(clause) else {
-        return Err(Cause::NoClause.refusal());
-    };
-    book.delete(number, clause);
+    annotating::delete_named(alloc, book, clause)?;
     Ok(())
 }
 

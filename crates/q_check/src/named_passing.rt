@@ -32,7 +32,7 @@ pub fn make(
         }
         Kind::Delete => {
             load_clause(clause, lits)?;
-            delete(book, clause)
+            delete(hints.alloc, book, clause)
         }
         Kind::Drop => {
             load_clause(clause, lits)?;

@@ -1,19 +1,11 @@
-use Rattle.std.proofs.Common.{refl}
-use Rattle.q_logic.proofs.Common.{test-false}
-use Rattle.q_check.proofs.UnfitNumbered.{delete-unnamed, delete-unfound, delete-named}
+use Rattle.std.proofs.lemmas.Result.{err_from_is_err_and}
+use Rattle.q_check.proofs.UnfitNumbered.{delete-named, delete-unmade}
 use Rattle.q_check.proofs.named_makes.delete.Goals as goal
 
-pub returns-then-not-binds_all : goal.returns-then-not-binds_all
-returns-then-not-binds_all c m p =
-    let b = rw c.scope.ensures at c.binds_all.ensures in
-    rw c.refusal.ensures (refl, delete-unnamed m c.args.book.now p c.args.clause.now (test-false c.binds_all.result b c.if-not-binds_all.true))
-
-pub returns-in_default : goal.returns-in_default
-returns-in_default c m p =
-    let b = rw c.scope.ensures at c.binds_all.ensures in
-    rw c.refusal-in_default.ensures (refl, delete-unfound m c.args.book.now p c.args.clause.now (b.0 c.if-not-binds_all.false) c.in_default.ensures)
+pub returns-in_err-delete_named : goal.returns-in_err-delete_named
+returns-in_err-delete_named c m p =
+    let r = err_from_is_err_and c.from_residual.result c.from_residual.ensures.1 in
+    rw (r.1, r.2) (delete-unmade m c.args.book.now c.delete_named.new.book p c.args.clause.now c.in_err-delete_named.field-0.0 (c.in_err-delete_named.ensures m p))
 
 pub returns : goal.returns
-returns c m p =
-    let b = rw c.scope.ensures at c.binds_all.ensures in
-    rw c.delete.ensures (delete-named m c.args.book.now p c.args.clause.now c.in-Some.number (b.0 c.if-not-binds_all.false) c.in-Some.ensures)
+returns c m p = delete-named m c.args.book.now c.delete_named.new.book p c.args.clause.now c.in_ok-delete_named.field-0 (c.in_ok-delete_named.ensures m p)

@@ -1,0 +1,3 @@
+pub mod ShownShares
+pub mod Shows
+pub mod Readings
