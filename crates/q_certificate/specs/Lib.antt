@@ -5,6 +5,7 @@ pub mod Growing
 pub mod Undone
 pub mod Copied
 pub mod Made
+pub mod Cells
 pub mod Cones
 pub mod Narrowed
 pub mod Refusals

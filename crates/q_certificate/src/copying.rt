@@ -7,7 +7,7 @@ ghost use Rattle.q_aig.specs.Nodes.{node_view};
 ghost use Rattle.q_certificate.specs.Standing.{AreLiterals};
 ghost use Rattle.q_certificate.specs.Copied.{IsMarked, AreMarked, copied_operand, AreCopied, IsCopy, ArePlaced};
 
-use crate::tables::{look, put};
+use crate::table::{Table, look, put};
 use q_aig::{Aig, Node, Output, negate};
 use q_logic::NoMemory;
 use std::alloc::Global;
@@ -58,10 +58,10 @@ fn mark_all(aig: &Aig, outputs: &[Output], marks: &mut [bool])
 }
 
 /// The literal in the copy.
-pub fn translate(old: &Aig, inputs: &[Option<u64>], row: &[u64], lit: u64) -> u64
+pub fn translate(old: &Aig, inputs: &Table, row: &[u64], lit: u64) -> u64
     requires lit { IsLiteral old.now lit }
     requires there { IsThere (length old.now.inputs) (length row.now) (operand_of lit).node }
-    ensures { operand_of result ≡ copied_operand old.now.inputs inputs.now row.now
+    ensures { operand_of result ≡ copied_operand old.now.inputs inputs.now.items row.now
         (operand_of lit) }
 {
     let plain = match old.node(lit) {
@@ -76,15 +76,15 @@ pub fn translate(old: &Aig, inputs: &[Option<u64>], row: &[u64], lit: u64) -> u6
 fn copy_gate(
     old: &Aig,
     aig: &mut Aig,
-    inputs: &[Option<u64>],
+    inputs: &Table,
     row: &[u64],
     gate: usize,
 ) -> Result<u64, NoMemory>
     requires gate { gate < length old.now.gates }
     requires row { length row.now ≡ gate }
     requires there { (g : ℕ) → IsLiteral aig.old (slice_index_or row.now g 0) }
-    requires inputs { AreLiterals aig.old inputs.now }
-    ensures { IfOk result (IsCopy old.now inputs.now aig.old aig.new row.now gate) }
+    requires inputs { AreLiterals aig.old inputs.now.items }
+    ensures { IfOk result (IsCopy old.now inputs.now.items aig.old aig.new row.now gate) }
 {
     old.inputs();
     let (left, right) = old.operands(gate);
@@ -101,12 +101,12 @@ pub fn copy_gates(
     marks: &[bool],
     outputs: &[Output],
     aig: &mut Aig,
-    inputs: &[Option<u64>],
+    inputs: &Table,
 ) -> Result<Vec<u64>, NoMemory>
     requires room { length marks.now ≡ length old.now.gates }
     requires marked { AreMarked old.now.gates outputs.now marks.now }
-    requires inputs { AreLiterals aig.old inputs.now }
-    ensures { IfOk result (λ row. AreCopied old.now marks.now inputs.now aig.old aig.new row.items
+    requires inputs { AreLiterals aig.old inputs.now.items }
+    ensures { IfOk result (λ row. AreCopied old.now marks.now inputs.now.items aig.old aig.new row.items
         (length old.now.gates)) }
 {
     let mut row = Vec::new(alloc);
@@ -126,16 +126,16 @@ pub fn place_outputs(
     alloc: Global,
     old: &Aig,
     outputs: &[Output],
-    inputs: &[Option<u64>],
+    inputs: &Table,
     row: &[u64],
-) -> Result<Vec<Option<u64>>, NoMemory>
+) -> Result<Table, NoMemory>
     requires outputs { AreOutputs old.now outputs.now }
     requires room { length row.now ≡ length old.now.gates }
-    ensures { IfOk result (λ tb. ArePlaced old.now inputs.now row.now outputs.now outputs.now
+    ensures { IfOk result (λ tb. ArePlaced old.now inputs.now.items row.now outputs.now outputs.now
         tb.items) }
 {
     old.inputs();
-    let mut circuits = Vec::new(alloc);
+    let mut circuits = Table::new(alloc);
     let mut i = outputs.len();
     while i > 0 {
         i -= 1;

@@ -12,7 +12,7 @@ ghost use Rattle.q_certificate.specs.Testing.{name_at, IsFirstOver, IsInputMisfi
 
 use crate::error::Misfit;
 use crate::peaks::{greater, peak_of, peaks, strange_weights};
-use crate::tables::look;
+use crate::table::{Table, look};
 use q_aig::Certificate;
 use q_logic::{Bound, NoMemory, Quant};
 use std::alloc::Global;
@@ -22,10 +22,10 @@ pub fn test_inputs(
     alloc: Global,
     prefix: &[Bound],
     given: &mut Certificate,
-    places: &[Option<u64>],
+    places: &Table,
 ) -> Result<(), Misfit>
     requires distinct { Distinct prefix.now }
-    requires places { ArePlaces given.old.inputs places.now }
+    requires places { ArePlaces given.old.inputs places.now.items }
     ensures unchanged { given.new ≡ given.old }
     ensures ok { OnOk result (NoStrangeInput prefix.now given.old) }
     ensures refused { IfErr result (IsInputMisfit prefix.now given.old) }
@@ -45,10 +45,10 @@ fn universals_in(
     alloc: Global,
     prefix: &[Bound],
     given: &Certificate,
-    places: &[Option<u64>],
+    places: &Table,
 ) -> Result<Vec<bool>, NoMemory>
     requires distinct { Distinct prefix.now }
-    requires places { ArePlaces given.now.inputs places.now }
+    requires places { ArePlaces given.now.inputs places.now.items }
     ensures room { IfOk result (λ al. length al.items ≡ length given.now.inputs) }
     ensures allowed { IfOk result (λ al. AreAllowedBy prefix.now given.now.inputs al.items) }
 {
@@ -68,10 +68,10 @@ pub fn nothing_allowed(alloc: Global, count: usize) -> Result<Vec<bool>, NoMemor
     Ok(allowed)
 }
 
-fn allow_all(prefix: &[Bound], names: &[u32], places: &[Option<u64>], allowed: &mut [bool])
+fn allow_all(prefix: &[Bound], names: &[u32], places: &Table, allowed: &mut [bool])
     requires distinct { Distinct prefix.now }
     requires names { AreDistinct names.now }
-    requires places { ArePlaces names.now places.now }
+    requires places { ArePlaces names.now places.now.items }
     requires room { length allowed.old ≡ length names.now }
     requires fresh { (k : ℕ) → slice_index_or allowed.old k false ≡ false }
     ensures { AreAllowedBy prefix.now names.now allowed.new }
@@ -85,9 +85,9 @@ fn allow_all(prefix: &[Bound], names: &[u32], places: &[Option<u64>], allowed: &
 }
 
 /// Allows the input of this name.
-pub fn allow(places: &[Option<u64>], allowed: &mut [bool], var: u32)
-    requires within { (x i : ℕ) → look_at places.now x ≡ Some i → i < length allowed.old }
-    ensures { (names : List ℕ) → AreDistinct names → ArePlaces names places.now → length allowed.old
+pub fn allow(places: &Table, allowed: &mut [bool], var: u32)
+    requires within { (x i : ℕ) → look_at places.now.items x ≡ Some i → i < length allowed.old }
+    ensures { (names : List ℕ) → AreDistinct names → ArePlaces names places.now.items → length allowed.old
         ≡ length names → (k : ℕ) → k < length names → slice_index_or allowed.new k false
         ≡ cond (eqb (slice_index_or names k 0) var) true (slice_index_or allowed.old k false) }
 {

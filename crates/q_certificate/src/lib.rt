@@ -18,6 +18,7 @@ mod narrowing;
 mod parts;
 mod peaks;
 mod reads;
+mod table;
 mod tables;
 
 pub use accepting::test;
@@ -30,4 +31,5 @@ pub use laws::{
 pub use making::{name_outputs, open_inputs};
 pub use narrowing::narrow;
 pub use parts::{all_of, or, raise, some_of};
-pub use tables::{Tables, look, put};
+pub use table::{Table, look, put};
+pub use tables::Tables;

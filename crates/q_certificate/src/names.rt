@@ -8,7 +8,7 @@ ghost use Rattle.q_certificate.specs.Testing.{IsNameMisfit};
 
 use crate::by_variable::existentials_of;
 use crate::error::Misfit;
-use crate::tables::look;
+use crate::table::{Table, look};
 use q_aig::{Certificate, Output};
 use q_logic::{Bound, Quant};
 use std::alloc::Global;
@@ -18,10 +18,10 @@ pub fn test_names(
     alloc: Global,
     prefix: &[Bound],
     given: &Certificate,
-    circuits: &[Option<u64>],
+    circuits: &Table,
 ) -> Result<(), Misfit>
     requires distinct { Distinct prefix.now }
-    requires circuits { AreCircuits (net_of given.now) (trees_of given.now) circuits.now }
+    requires circuits { AreCircuits (net_of given.now) (trees_of given.now) circuits.now.items }
     ensures missing { OnOk result (first_missing_spec prefix.now given.now ≡ None) }
     ensures strange { OnOk result (first_strange_spec prefix.now given.now.outputs ≡ None) }
     ensures refused { IfErr result (IsNameMisfit prefix.now given.now) }
@@ -37,8 +37,8 @@ pub fn test_names(
 }
 
 // Whether the variable is an existential without a circuit.
-fn misses(bound: Bound, table: &[Option<u64>]) -> bool
-    ensures { (c : CertificateView) → AreCircuits (net_of c) (trees_of c) table.now
+fn misses(bound: Bound, table: &Table) -> bool
+    ensures { (c : CertificateView) → AreCircuits (net_of c) (trees_of c) table.now.items
         → result ≡ (is_exists bound.quant && not (given_spec (trees_of c bound.var))) }
 {
     match bound.quant {
@@ -48,8 +48,8 @@ fn misses(bound: Bound, table: &[Option<u64>]) -> bool
 }
 
 // The first existential without a circuit.
-fn first_missing(prefix: &[Bound], table: &[Option<u64>]) -> Option<u32>
-    ensures { (c : CertificateView) → AreCircuits (net_of c) (trees_of c) table.now
+fn first_missing(prefix: &[Bound], table: &Table) -> Option<u32>
+    ensures { (c : CertificateView) → AreCircuits (net_of c) (trees_of c) table.now.items
         → result ≡ first_missing_spec prefix.now c }
 {
     for i in 0..prefix.len() {
@@ -61,8 +61,8 @@ fn first_missing(prefix: &[Bound], table: &[Option<u64>]) -> Option<u32>
 }
 
 // The first name that is no existential.
-fn first_strange(outputs: &[Output], table: &[Option<u64>]) -> Option<u32>
-    ensures { (P : Prefix) → AreExistentials P table.now
+fn first_strange(outputs: &[Output], table: &Table) -> Option<u32>
+    ensures { (P : Prefix) → AreExistentials P table.now.items
         → result ≡ first_strange_spec P (map output_of outputs.now) }
 {
     for i in 0..outputs.len() {

@@ -14,7 +14,7 @@ ghost use Rattle.q_certificate.specs.Testing.{IsFirstIn, IsReadMisfit};
 use crate::error::Misfit;
 use crate::inputs::{allow, nothing_allowed};
 use crate::peaks::{peak_of, peaks};
-use crate::tables::look;
+use crate::table::{Table, look};
 use q_aig::Certificate;
 use q_logic::{Bound, NoMemory, Quant};
 use std::alloc::Global;
@@ -31,13 +31,13 @@ pub fn test_reads(
     alloc: Global,
     prefix: &[Bound],
     given: &mut Certificate,
-    circuits: &[Option<u64>],
-    places: &[Option<u64>],
+    circuits: &Table,
+    places: &Table,
 ) -> Result<(), Misfit>
     requires distinct { Distinct prefix.now }
-    requires circuits { AreCircuits (net_of given.old) (trees_of given.old) circuits.now }
+    requires circuits { AreCircuits (net_of given.old) (trees_of given.old) circuits.now.items }
     requires inputs { AreDistinct given.old.inputs }
-    requires places { ArePlaces given.old.inputs places.now }
+    requires places { ArePlaces given.old.inputs places.now.items }
     ensures unchanged { given.new ≡ given.old }
     ensures ok { OnOk result (AllOuter prefix.now given.old) }
     ensures refused { IfErr result (IsReadMisfit prefix.now given.old) }
@@ -61,10 +61,10 @@ fn depths_of(
     alloc: Global,
     prefix: &[Bound],
     given: &Certificate,
-    places: &[Option<u64>],
+    places: &Table,
 ) -> Result<Depths, NoMemory>
     requires distinct { Distinct prefix.now }
-    requires places { ArePlaces given.now.inputs places.now }
+    requires places { ArePlaces given.now.inputs places.now.items }
     ensures inputs { IfOk result (λ d. AreDepths prefix.now given.now.inputs d.inputs.items) }
     ensures gates { IfOk result (λ d. AreGateDepths (net_of given.now) d.inputs.items
         d.gates.items) }
@@ -78,11 +78,11 @@ fn input_depths(
     alloc: Global,
     prefix: &[Bound],
     names: &[u32],
-    places: &[Option<u64>],
+    places: &Table,
 ) -> Result<Vec<usize>, NoMemory>
     requires distinct { Distinct prefix.now }
     requires names { AreDistinct names.now }
-    requires places { ArePlaces names.now places.now }
+    requires places { ArePlaces names.now places.now.items }
     ensures room { IfOk result (λ ds. length ds.items ≡ length names.now) }
     ensures depths { IfOk result (λ ds. AreDepths prefix.now names.now ds.items) }
 {
@@ -93,10 +93,10 @@ fn input_depths(
 }
 
 // Gives each universal among the inputs its depth.
-fn deepen_all(prefix: &[Bound], names: &[u32], places: &[Option<u64>], depths: &mut [usize])
+fn deepen_all(prefix: &[Bound], names: &[u32], places: &Table, depths: &mut [usize])
     requires distinct { Distinct prefix.now }
     requires names { AreDistinct names.now }
-    requires places { ArePlaces names.now places.now }
+    requires places { ArePlaces names.now places.now.items }
     requires room { length depths.old ≡ length names.now }
     requires deep { AreDepths prefix.now names.now depths.old }
     ensures { AreDepths prefix.now names.now depths.new }
@@ -110,9 +110,9 @@ fn deepen_all(prefix: &[Bound], names: &[u32], places: &[Option<u64>], depths: &
 }
 
 // Gives the input of this name its depth.
-fn deepen(places: &[Option<u64>], depths: &mut [usize], var: u32, depth: usize)
-    requires within { (x i : ℕ) → look_at places.now x ≡ Some i → i < length depths.old }
-    ensures { (names : List ℕ) → AreDistinct names → ArePlaces names places.now
+fn deepen(places: &Table, depths: &mut [usize], var: u32, depth: usize)
+    requires within { (x i : ℕ) → look_at places.now.items x ≡ Some i → i < length depths.old }
+    ensures { (names : List ℕ) → AreDistinct names → ArePlaces names places.now.items
         → length depths.old ≡ length names →
         (k : ℕ) → k < length names → slice_index depths.new k
         ≡ cond (eqb (slice_index names k) var) depth (slice_index depths.old k) }
@@ -126,15 +126,15 @@ fn deepen(places: &[Option<u64>], depths: &mut [usize], var: u32, depth: usize)
 fn first_reading(
     given: &mut Certificate,
     prefix: &[Bound],
-    table: &[Option<u64>],
-    places: &[Option<u64>],
+    table: &Table,
+    places: &Table,
     depths: &Depths,
     allowed: &mut [bool],
 ) -> Option<(u32, u32)>
     requires distinct { Distinct prefix.now }
-    requires circuits { AreCircuits (net_of given.old) (trees_of given.old) table.now }
+    requires circuits { AreCircuits (net_of given.old) (trees_of given.old) table.now.items }
     requires inputs { AreDistinct given.old.inputs }
-    requires places { ArePlaces given.old.inputs places.now }
+    requires places { ArePlaces given.old.inputs places.now.items }
     requires depths { AreDepths prefix.now given.old.inputs depths.now.inputs.items }
     requires gates { AreGateDepths (net_of given.old) depths.now.inputs.items
         depths.now.gates.items }
@@ -160,13 +160,13 @@ fn first_reading(
 // The first input that the circuit of a variable reads and that is not allowed, where all up to this depth are.
 fn reads_of(
     given: &mut Certificate,
-    table: &[Option<u64>],
+    table: &Table,
     depths: &Depths,
     var: u32,
     depth: usize,
     allowed: &[bool],
 ) -> Option<usize>
-    requires circuits { AreCircuits (net_of given.old) (trees_of given.old) table.now }
+    requires circuits { AreCircuits (net_of given.old) (trees_of given.old) table.now.items }
     requires gates { AreGateDepths (net_of given.old) depths.now.inputs.items
         depths.now.gates.items }
     requires room { length allowed.now ≡ length given.old.inputs }

@@ -8,7 +8,7 @@ ghost use Rattle.q_extract.specs.Merges.{IsSaidBelow, merge_circuits, value_at};
 ghost use Rattle.q_extract.specs.Rows.{drops_in, guards_in, kept_in, values_next, AreSound, IsMore, IsMoreOver, IsMergeMore, IsSayingMore};
 
 use crate::said::{Merge, Sayings};
-use q_certificate::{look, put};
+use q_certificate::{Table, look, put};
 use q_logic::{Clauses, Lit, NoMemory};
 use std::alloc::Global;
 
@@ -24,7 +24,7 @@ pub struct Fall {
 pub struct Drops {
     pub guards: Clauses,
     pub row: Vec<Fall>,
-    pub last: Vec<Option<u64>>,
+    pub last: Table,
     pub merges: Vec<Merge>,
     pub said: Sayings,
 }
@@ -39,7 +39,7 @@ pub fn no_drops(alloc: Global) -> Drops
     Drops {
         guards: Clauses::new(alloc),
         row: Vec::new(alloc),
-        last: Vec::new(alloc),
+        last: Table::new(alloc),
         merges: Vec::new(alloc),
         said: Sayings::new(alloc),
     }

@@ -12,7 +12,7 @@ use crate::drops::Drops;
 use crate::guards::nothing_held;
 use crate::merging::merge_nodes;
 use q_aig::{Aig, Certificate};
-use q_certificate::{Tables, name_outputs, open_inputs, put};
+use q_certificate::{Table, Tables, name_outputs, open_inputs, put};
 use q_logic::{Bound, NoMemory, Quant};
 use std::alloc::Global;
 
@@ -62,7 +62,7 @@ pub fn extract(alloc: Global, prefix: &[Bound], drops: &Drops) -> Result<Certifi
     let inputs = open_inputs(alloc, &mut aig, prefix)?;
     let mut tables = Tables {
         inputs,
-        circuits: Vec::new(alloc),
+        circuits: Table::new(alloc),
     };
     let nodes = merge_nodes(alloc, &mut aig, &tables, &drops.merges)?;
     let mut held = nothing_held(alloc, drops.guards.len())?;

@@ -9,6 +9,7 @@ pub mod InputEntries
 pub mod SlotCircuits
 pub mod FilledSlots
 pub mod InputReplacements
+pub mod MergedRows
 pub mod FirstDraft
 pub mod ChosenCircuits
 pub mod MadeSteps

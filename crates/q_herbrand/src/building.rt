@@ -2,13 +2,13 @@
 //! was filled with, or of its variable's input.
 ghost use Rattle.std.specs.Prelude.{◌≡◌, ◌<◌, ◌+◌, ℕ, length, slice_index_or, None, OnOk, IfOk, MatchOption};
 ghost use Rattle.q_aig.specs.Prelude.{IsLiteral, operand_of};
-ghost use Rattle.q_certificate.specs.Prelude.{look_at, AreLiterals, InputsAt, is_there, copied_operand};
+ghost use Rattle.q_certificate.specs.Prelude.{look_at, AreLiterals, InputsAt, is_there, or_zero, copied_operand};
 ghost use Rattle.q_herbrand.specs.Slots.{AreSlots, AreOwned, owner_at};
 ghost use Rattle.q_herbrand.specs.Settled.{row_literal, AreRows, AreBuilt, IsBuilt, IsCopied};
 
 use crate::slots::Slots;
-use q_aig::Aig;
-use q_certificate::translate;
+use q_aig::{Aig, Node, negate};
+use q_certificate::Table;
 use q_logic::NoMemory;
 use std::alloc::Global;
 
@@ -35,37 +35,55 @@ pub fn nothing(alloc: Global, slots: usize, gates: usize) -> Result<Settled, NoM
     Ok(made)
 }
 
-// The literal of an input by its place, or 0.
-fn input_at(inputs: &[Option<u64>], at: usize) -> u64
-    ensures { result ≡ row_literal inputs.now at }
+// A literal, or 0.
+fn or_false(lit: Option<u64>) -> u64
+    ensures { result ≡ or_zero lit }
 {
-    if at < inputs.len() {
-        inputs[at].unwrap_or(0)
-    } else {
-        0
+    lit.unwrap_or(0)
+}
+
+impl Settled {
+    /// What stands for a literal of the draft.
+    pub fn literal(&self, draft: &Aig, lit: u64) -> u64
+        requires lit { IsLiteral draft.now lit }
+        requires room { length self.now.gates.items ≡ length draft.now.gates }
+        ensures { operand_of result ≡ copied_operand draft.now.inputs self.now.slots.items
+            self.now.gates.items (operand_of lit) }
+    {
+        let plain = match draft.node(lit) {
+            Node::Constant => 0,
+            Node::Input(at) => or_false(self.slot(draft.inputs()[at])),
+            Node::Gate(gate) => self.gates[gate],
+        };
+        if lit % 2 == 1 { negate(plain) } else { plain }
+    }
+
+    fn slot(&self, slot: u32) -> Option<u64>
+        ensures { result ≡ look_at self.now.slots.items slot }
+    {
+        let at = slot as usize;
+        if at < self.slots.len() {
+            self.slots[at]
+        } else {
+            None
+        }
     }
 }
 
 // The literal of a slot.
-fn slot_literal(
-    draft: &Aig,
-    slots: &Slots,
-    inputs: &[Option<u64>],
-    made: &Settled,
-    slot: usize,
-) -> u64
+fn slot_literal(draft: &Aig, slots: &Slots, inputs: &Table, made: &Settled, slot: usize) -> u64
     requires literals { AreLiterals draft.now slots.now.definitions.items }
     requires slot { slot < length slots.now.definitions.items }
     requires owners { slot < length slots.now.owners.items }
     requires room { length made.now.gates.items ≡ length draft.now.gates }
     ensures { MatchOption (look_at slots.now.definitions.items slot)
-        (result ≡ row_literal inputs.now (owner_at slots.now.owners.items slot))
+        (result ≡ row_literal inputs.now.items (owner_at slots.now.owners.items slot))
         (λ l. operand_of result ≡ copied_operand draft.now.inputs made.now.slots.items
         made.now.gates.items (operand_of l)) }
 {
     match slots.definitions[slot] {
-        Some(lit) => translate(draft, &made.slots, &made.gates, lit),
-        None => input_at(inputs, slots.owners[slot]),
+        Some(lit) => made.literal(draft, lit),
+        None => or_false(inputs.get(slots.owners[slot])),
     }
 }
 
@@ -80,8 +98,8 @@ fn copy_gate(draft: &Aig, made: &Settled, aig: &mut Aig, gate: usize) -> Result<
     // for the proof: the contract of this call says that this is a graph
     draft.inputs();
     let (left, right) = draft.operands(gate);
-    let a = translate(draft, &made.slots, &made.gates, left);
-    let b = translate(draft, &made.slots, &made.gates, right);
+    let a = made.literal(draft, left);
+    let b = made.literal(draft, right);
     let lit = aig.and(a, b)?;
     Ok(lit)
 }
@@ -90,15 +108,15 @@ fn copy_gate(draft: &Aig, made: &Settled, aig: &mut Aig, gate: usize) -> Result<
 pub fn build(
     draft: &Aig,
     slots: &Slots,
-    inputs: &[Option<u64>],
+    inputs: &Table,
     aig: &mut Aig,
     made: &mut Settled,
     node: usize,
 ) -> Result<(), NoMemory>
     requires slots { AreSlots draft.now slots.now }
-    requires owned { AreOwned draft.now.inputs inputs.now slots.now }
-    requires inputs { AreLiterals aig.old inputs.now }
-    requires at { InputsAt aig.old inputs.now (λ x. is_there (look_at inputs.now x)) }
+    requires owned { AreOwned draft.now.inputs inputs.now.items slots.now }
+    requires inputs { AreLiterals aig.old inputs.now.items }
+    requires at { InputsAt aig.old inputs.now.items (λ x. is_there (look_at inputs.now.items x)) }
     requires rows { AreRows draft.now aig.old slots.now made.old }
     requires node { node < length slots.now.definitions.items + length draft.now.gates }
     ensures { OnOk result (IsBuilt draft.now aig.old aig.new slots.now made.old made.new node) }

@@ -13,7 +13,7 @@ use crate::inputs::open;
 use crate::reversal::Reversals;
 use crate::settling::settle;
 use q_aig::{Aig, Certificate};
-use q_certificate::{look, name_outputs, put, translate};
+use q_certificate::{Table, look, name_outputs, put};
 use q_logic::{Bound, Formula, NoMemory, Quant};
 use std::alloc::Global;
 
@@ -24,7 +24,7 @@ fn settled_literal(draft: &Draft, settled: &Settled, var: u32) -> u64
         result }
 {
     match look(&draft.tables.circuits, var) {
-        Some(lit) => translate(&draft.aig, &settled.slots, &settled.gates, lit),
+        Some(lit) => settled.literal(&draft.aig, lit),
         None => 0,
     }
 }
@@ -35,12 +35,12 @@ fn choose(
     turned: &[Bound],
     draft: &Draft,
     settled: &Settled,
-) -> Result<Vec<Option<u64>>, NoMemory>
+) -> Result<Table, NoMemory>
     requires distinct { Distinct turned.now }
     requires written { IsWritten draft.now settled.now }
     ensures { IfOk result (λ row. IsChosen turned.now draft.now settled.now row.items) }
 {
-    let mut row = Vec::new(alloc);
+    let mut row = Table::new(alloc);
     for bound in turned {
         match bound.quant {
             Quant::Forall => {}

@@ -1,5 +1,5 @@
 //! The draft: the gates that the given circuits need, over slots, with all entries taken.
-ghost use Rattle.std.specs.Prelude.{◌≡◌, ◌≤◌, ℕ, max, length, IfOk};
+ghost use Rattle.std.specs.Prelude.{◌≡◌, ◌==◌, if◌then◌else◌, ℕ, max, None, IfOk, OnOk};
 ghost use Rattle.q_certificate.specs.Prelude.{look_at};
 ghost use Rattle.q_herbrand.specs.Inputs.{AreInputs};
 ghost use Rattle.q_herbrand.specs.Drafted.{either, AreMerged, IsDrafted, IsCopiedInto};
@@ -9,7 +9,7 @@ use crate::inputs::reopen;
 use crate::reversal::Reversals;
 use crate::slots::{Slots, begin};
 use q_aig::{Aig, Certificate};
-use q_certificate::{Tables, copy_gates, mark_cones, place_outputs};
+use q_certificate::{Table, Tables, copy_gates, mark_cones, place_outputs, put};
 use q_logic::NoMemory;
 use std::alloc::Global;
 
@@ -19,12 +19,6 @@ pub struct Draft {
     pub aig: Aig,
     pub tables: Tables,
     pub slots: Slots,
-}
-
-fn at(row: &[Option<u64>], place: usize) -> Option<u64>
-    ensures { result ≡ look_at row.now place }
-{
-    if place < row.len() { row[place] } else { None }
 }
 
 fn first_of(first: Option<u64>, second: Option<u64>) -> Option<u64>
@@ -42,17 +36,26 @@ fn greater(first: usize, second: usize) -> usize
     if first < second { second } else { first }
 }
 
-// The circuits, and for variables that have none the inputs.
-fn merge(
-    alloc: Global,
-    circuits: &[Option<u64>],
-    inputs: &[Option<u64>],
-) -> Result<Vec<Option<u64>>, NoMemory>
-    ensures { IfOk result (λ row. AreMerged circuits.now inputs.now row.items) }
+// Puts what there is. Nothing takes no memory.
+fn put_some(row: &mut Table, at: u32, lit: Option<u64>) -> Result<(), NoMemory>
+    requires { look_at row.old.items at ≡ None }
+    ensures { OnOk result ((x : ℕ) → look_at row.new.items x ≡ (if x == at then lit
+        else look_at row.old.items x)) }
 {
-    let mut row = Vec::new(alloc);
+    match lit {
+        None => Ok(()),
+        Some(_) => put(row, at, lit),
+    }
+}
+
+// The circuits, and for variables that have none the inputs.
+fn merge(alloc: Global, circuits: &Table, inputs: &Table) -> Result<Table, NoMemory>
+    ensures { IfOk result (λ row. AreMerged circuits.now.items inputs.now.items row.items) }
+{
+    let mut row = Table::new(alloc);
     for place in 0..greater(circuits.len(), inputs.len()) {
-        row.push(first_of(at(circuits, place), at(inputs, place)))?;
+        let lit = first_of(circuits.get(place), inputs.get(place));
+        put_some(&mut row, place as u32, lit)?;
     }
     Ok(row)
 }
@@ -61,11 +64,12 @@ fn merge(
 fn copy_into(
     alloc: Global,
     aig: &mut Aig,
-    inputs: &[Option<u64>],
+    inputs: &Table,
     given: &Certificate,
-) -> Result<Vec<Option<u64>>, NoMemory>
-    requires inputs { AreInputs aig.old.inputs inputs.now }
-    ensures { IfOk result (λ row. IsCopiedInto aig.old aig.new inputs.now given.now row.items) }
+) -> Result<Table, NoMemory>
+    requires inputs { AreInputs aig.old.inputs inputs.now.items }
+    ensures { IfOk result (λ row. IsCopiedInto aig.old aig.new inputs.now.items given.now
+        row.items) }
 {
     let old = given.aig();
     let outputs = given.outputs();
@@ -80,7 +84,7 @@ fn copy_into(
 pub fn make_draft(
     alloc: Global,
     opened: &Aig,
-    inputs: Vec<Option<u64>>,
+    inputs: Table,
     reversals: &Reversals,
     given: &Certificate,
 ) -> Result<Draft, NoMemory>

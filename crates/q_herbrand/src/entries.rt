@@ -16,7 +16,7 @@ ghost use Rattle.q_herbrand.specs.Entries.{entry_of};
 use crate::reversal::{Reversal, Reversals};
 use crate::slots::{Slots, fill, renew, slot_of};
 use q_aig::{Aig, constant, negate};
-use q_certificate::{Tables, all_of, look, put, raise};
+use q_certificate::{Table, Tables, all_of, look, put, raise};
 use q_logic::{Clauses, Lit, NoMemory};
 
 // The conjunction of the negations.
@@ -35,7 +35,7 @@ fn none_of(aig: &mut Aig, tables: &Tables, clause: &[Lit]) -> Result<u64, NoMemo
 }
 
 // Makes one literal false where q holds.
-fn lower(aig: &mut Aig, circuits: &mut Vec<Option<u64>>, lit: Lit, q: u64) -> Result<(), NoMemory>
+fn lower(aig: &mut Aig, circuits: &mut Table, lit: Lit, q: u64) -> Result<(), NoMemory>
     requires circuits { AreLiterals aig.old circuits.old.items }
     requires q { IsLiteral aig.old q }
     ensures { OnOk result ((ins : List (Option ℕ)) → AreLiterals aig.old ins →
@@ -49,12 +49,7 @@ fn lower(aig: &mut Aig, circuits: &mut Vec<Option<u64>>, lit: Lit, q: u64) -> Re
 }
 
 // Makes literals false where q holds.
-fn lower_all(
-    aig: &mut Aig,
-    circuits: &mut Vec<Option<u64>>,
-    lits: &[Lit],
-    q: u64,
-) -> Result<(), NoMemory>
+fn lower_all(aig: &mut Aig, circuits: &mut Table, lits: &[Lit], q: u64) -> Result<(), NoMemory>
     requires circuits { AreLiterals aig.old circuits.old.items }
     requires q { IsLiteral aig.old q }
     ensures { OnOk result ((ins : List (Option ℕ)) → AreLiterals aig.old ins →

@@ -13,6 +13,7 @@ use crate::building::{Settled, build, nothing};
 use crate::nodes::nodes;
 use crate::slots::Slots;
 use q_aig::Aig;
+use q_certificate::Table;
 use q_gates::{Sorted, sort_gates};
 use q_logic::NoMemory;
 use std::alloc::Global;
@@ -36,15 +37,15 @@ fn order(alloc: Global, draft: &Aig, slots: &Slots) -> Result<Vec<usize>, NoMemo
 fn build_all(
     draft: &Aig,
     slots: &Slots,
-    inputs: &[Option<u64>],
+    inputs: &Table,
     aig: &mut Aig,
     made: &mut Settled,
     order: &[usize],
 ) -> Result<(), NoMemory>
     requires slots { AreSlots draft.now slots.now }
-    requires owned { AreOwned draft.now.inputs inputs.now slots.now }
-    requires inputs { AreLiterals aig.old inputs.now }
-    requires at { InputsAt aig.old inputs.now (λ x. is_there (look_at inputs.now x)) }
+    requires owned { AreOwned draft.now.inputs inputs.now.items slots.now }
+    requires inputs { AreLiterals aig.old inputs.now.items }
+    requires at { InputsAt aig.old inputs.now.items (λ x. is_there (look_at inputs.now.items x)) }
     requires nothing { AreBuilt draft.now aig.old aig.old slots.now made.old order.now 0 }
     requires order { IsOrdered draft.now slots.now order.now }
     ensures { OnOk result (AreBuilt draft.now aig.old aig.new slots.now made.new order.now
@@ -63,13 +64,13 @@ pub fn settle(
     alloc: Global,
     draft: &Aig,
     slots: &Slots,
-    inputs: &[Option<u64>],
+    inputs: &Table,
     aig: &mut Aig,
 ) -> Result<Settled, NoMemory>
     requires slots { AreSlots draft.now slots.now }
-    requires owned { AreOwned draft.now.inputs inputs.now slots.now }
-    requires inputs { AreLiterals aig.old inputs.now }
-    requires at { InputsAt aig.old inputs.now (λ x. is_there (look_at inputs.now x)) }
+    requires owned { AreOwned draft.now.inputs inputs.now.items slots.now }
+    requires inputs { AreLiterals aig.old inputs.now.items }
+    requires at { InputsAt aig.old inputs.now.items (λ x. is_there (look_at inputs.now.items x)) }
     requires resolved { (r : ℕ → Circuit) × IsResolved draft.now slots.now r }
     ensures { IfOk result (IsSettled draft.now aig.old aig.new slots.now) }
 {

@@ -4,7 +4,7 @@ ghost use Rattle.q_certificate.specs.Prelude.{look_at, is_there};
 ghost use Rattle.q_herbrand.specs.Slots.{AreSlots, IsBegun, IsRenewed, slot_at};
 
 use q_aig::Aig;
-use q_certificate::{look, put};
+use q_certificate::{Table, look, put};
 use q_logic::NoMemory;
 use std::alloc::Global;
 
@@ -20,8 +20,8 @@ pub struct Slots {
 }
 
 /// A slot for each variable of the row.
-pub fn begin(alloc: Global, inputs: &[Option<u64>]) -> Result<Slots, NoMemory>
-    ensures { IfOk result (IsBegun (length inputs.now)) }
+pub fn begin(alloc: Global, inputs: &Table) -> Result<Slots, NoMemory>
+    ensures { IfOk result (IsBegun (length inputs.now.items)) }
 {
     let mut slots = Slots {
         current: Vec::new(alloc),
@@ -37,11 +37,11 @@ pub fn begin(alloc: Global, inputs: &[Option<u64>]) -> Result<Slots, NoMemory>
 }
 
 /// The slot that stands for a variable, where the variable is an input.
-pub fn slot_of(slots: &Slots, inputs: &[Option<u64>], var: u32) -> Option<usize>
+pub fn slot_of(slots: &Slots, inputs: &Table, var: u32) -> Option<usize>
     ensures { MatchOption result
-        ((is_there (look_at inputs.now var) ≡ false) ⊎ (length slots.now.current.items ≤ var))
+        ((is_there (look_at inputs.now.items var) ≡ false) ⊎ (length slots.now.current.items ≤ var))
         (λ s. (var < length slots.now.current.items) × (s ≡ slot_at slots.now.current.items var) ×
-        (is_there (look_at inputs.now var) ≡ true)) }
+        (is_there (look_at inputs.now.items var) ≡ true)) }
 {
     let _lit = look(inputs, var)?;
     let at = var as usize;
@@ -55,7 +55,7 @@ pub fn slot_of(slots: &Slots, inputs: &[Option<u64>], var: u32) -> Option<usize>
 /// A new slot for a variable. The one before is still to be filled.
 pub fn renew(
     aig: &mut Aig,
-    circuits: &mut Vec<Option<u64>>,
+    circuits: &mut Table,
     slots: &mut Slots,
     var: u32,
 ) -> Result<u64, NoMemory>

@@ -4,7 +4,7 @@ ghost use Rattle.q_logic.specs.Prelude.{Distinct, is_universal};
 ghost use Rattle.q_herbrand.specs.Disproved.{universals_in, AreZerosOf};
 
 use q_aig::{Aig, Certificate};
-use q_certificate::name_outputs;
+use q_certificate::{Table, name_outputs};
 use q_judge::Scope;
 use q_logic::{Bound, NoMemory, Quant};
 use std::alloc::Global;
@@ -42,6 +42,6 @@ pub fn zeros_among(alloc: Global, scope: &Scope, prefix: &[Bound]) -> Result<Cer
     ensures { IfOk result (AreZerosOf scope.now) }
 {
     let universals = universals_among(alloc, scope, prefix)?;
-    let made = name_outputs(Aig::new(alloc), &universals, &[])?;
+    let made = name_outputs(Aig::new(alloc), &universals, &Table::new(alloc))?;
     Ok(made)
 }

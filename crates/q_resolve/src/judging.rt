@@ -18,6 +18,7 @@ use crate::lines::{Desk, judge_line};
 use crate::marked::Marked;
 use crate::resolving::Away;
 use crate::seats::{exchange, seats_of};
+use q_certificate::Table;
 use q_extract::{Sayings, extract};
 use q_logic::{Bound, Formula, NoMemory};
 use q_qrp::Trace;
@@ -28,12 +29,12 @@ fn judge_at(
     desk: &mut Desk,
     formula: &Formula,
     prefix: &[Bound],
-    seats: &[Option<u64>],
+    seats: &Table,
     owner: Owner,
     trace: &Trace,
     n: usize,
 ) -> Result<Option<Fault>, NoMemory>
-    requires seats { AreSeats prefix.now seats.now }
+    requires seats { AreSeats prefix.now seats.now.items }
     requires ready { IsReady n desk.old.away.drops desk.old.said }
     requires place { n < length trace.now.lines }
     requires bound { AreParentsBound prefix.now (parents_at (entries_of trace.now.lines) n) }
@@ -60,13 +61,13 @@ fn judge_turn(
     desk: &mut Desk,
     formula: &Formula,
     prefix: &[Bound],
-    seats: &[Option<u64>],
+    seats: &Table,
     owner: Owner,
     trace: &Trace,
     cone: &[bool],
     n: usize,
 ) -> Result<Option<Fault>, NoMemory>
-    requires seats { AreSeats prefix.now seats.now }
+    requires seats { AreSeats prefix.now seats.now.items }
     requires place { n < length trace.now.lines }
     requires cone { AreCone (entries_of trace.now.lines) cone.now }
     requires stood { IsStood owner prefix.now formula.now.matrix (entries_of trace.now.lines) n
@@ -86,12 +87,12 @@ fn judge_cone(
     desk: &mut Desk,
     formula: &Formula,
     prefix: &[Bound],
-    seats: &[Option<u64>],
+    seats: &Table,
     owner: Owner,
     trace: &Trace,
     cone: &[bool],
 ) -> Result<Option<Wrong>, NoMemory>
-    requires seats { AreSeats prefix.now seats.now }
+    requires seats { AreSeats prefix.now seats.now.items }
     requires ready { IsReady 0 desk.old.away.drops desk.old.said }
     requires none { drops_in desk.old.away.drops ≡ [] }
     requires merges { desk.old.away.drops.merges.items ≡ [] }

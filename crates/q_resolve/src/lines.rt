@@ -19,6 +19,7 @@ use crate::reducing::{fault_of, reduce};
 use crate::resolving::{Away, resolve};
 use crate::saying::{keep, say_resolved, say_same};
 use crate::tests::{are_bound, is_pivot, may_merge, merges_anew, some_meets};
+use q_certificate::Table;
 use q_extract::Sayings;
 use q_logic::{Bound, Formula, Lit, NoMemory};
 use q_qrp::Trace;
@@ -35,14 +36,14 @@ pub enum Tried {
 fn try_pivot(
     parent: &mut Marked,
     prefix: &[Bound],
-    seats: &[Option<u64>],
+    seats: &Table,
     own: &Marked,
     marked: &Marked,
     first: &[Lit],
     second: &[Lit],
     pivot: Lit,
 ) -> Result<Option<Fault>, NoMemory>
-    requires seats { AreSeats prefix.now seats.now }
+    requires seats { AreSeats prefix.now seats.now.items }
     requires marked { marked.now ≡ second.now }
     requires first { AreBound prefix.now first.now }
     requires second { AreBound prefix.now second.now }
@@ -76,13 +77,13 @@ fn later(fault: Fault, found: Fault) -> Fault
 fn try_pivots(
     parent: &mut Marked,
     prefix: &[Bound],
-    seats: &[Option<u64>],
+    seats: &Table,
     own: &Marked,
     marked: &Marked,
     first: &[Lit],
     second: &[Lit],
 ) -> Result<Tried, NoMemory>
-    requires seats { AreSeats prefix.now seats.now }
+    requires seats { AreSeats prefix.now seats.now.items }
     requires marked { marked.now ≡ second.now }
     requires first { AreBound prefix.now first.now }
     requires second { AreBound prefix.now second.now }
@@ -104,13 +105,13 @@ fn finish(
     away: &mut Away,
     said: &mut Sayings,
     prefix: &[Bound],
-    seats: &[Option<u64>],
+    seats: &Table,
     owner: Owner,
     own: &Marked,
     parent: &[Lit],
     n: usize,
 ) -> Result<(), NoMemory>
-    requires seats { AreSeats prefix.now seats.now }
+    requires seats { AreSeats prefix.now seats.now.items }
     requires sound { AreSound away.old.drops }
     requires later { (x : ℕ) → said_in said.old n x ≡ None }
     requires bound { AreBound prefix.now parent.now }
@@ -126,11 +127,11 @@ fn finish(
 fn merges_more(
     parent: &mut Marked,
     prefix: &[Bound],
-    seats: &[Option<u64>],
+    seats: &Table,
     own: &Marked,
     source: &[Lit],
 ) -> Result<bool, NoMemory>
-    requires { AreSeats prefix.now seats.now }
+    requires { AreSeats prefix.now seats.now.items }
     ensures { IfOk result (λ found. found ≡ some (λ (k : Literal). is_anew prefix.now own.now
         source.now k) own.now) }
 {
@@ -147,14 +148,14 @@ fn judge_single(
     said: &mut Sayings,
     parent: &mut Marked,
     prefix: &[Bound],
-    seats: &[Option<u64>],
+    seats: &Table,
     owner: Owner,
     own: &Marked,
     source: &[Lit],
     i: usize,
     n: usize,
 ) -> Result<Option<Fault>, NoMemory>
-    requires seats { AreSeats prefix.now seats.now }
+    requires seats { AreSeats prefix.now seats.now.items }
     requires ready { IsReady n away.old.drops said.old }
     requires bound { AreBound prefix.now own.now }
     requires source { AreBound prefix.now source.now }
@@ -180,7 +181,7 @@ fn say_all(
     away: &mut Away,
     said: &Sayings,
     prefix: &[Bound],
-    seats: &[Option<u64>],
+    seats: &Table,
     owner: Owner,
     one: &mut Marked,
     two: &Marked,
@@ -190,7 +191,7 @@ fn say_all(
     j: usize,
     pivot: Lit,
 ) -> Result<(), NoMemory>
-    requires seats { AreSeats prefix.now seats.now }
+    requires seats { AreSeats prefix.now seats.now.items }
     requires sound { AreSound away.old.drops }
     requires fresh { (x : ℕ) → said_next away.old.drops x ≡ None }
     requires below { (m : ℕ) → (x : ℕ) → (k : ℕ) → said_in said.now m x ≡ Some k
@@ -226,7 +227,7 @@ fn judge_double(
     one: &mut Marked,
     two: &mut Marked,
     prefix: &[Bound],
-    seats: &[Option<u64>],
+    seats: &Table,
     owner: Owner,
     own: &Marked,
     first: &[Lit],
@@ -235,7 +236,7 @@ fn judge_double(
     j: usize,
     n: usize,
 ) -> Result<Option<Fault>, NoMemory>
-    requires seats { AreSeats prefix.now seats.now }
+    requires seats { AreSeats prefix.now seats.now.items }
     requires ready { IsReady n away.old.drops said.old }
     requires bound { AreBound prefix.now own.now }
     requires first { AreBound prefix.now first.now }
@@ -262,12 +263,12 @@ fn judge_double(
 pub fn is_leaf(
     formula: &Formula,
     prefix: &[Bound],
-    seats: &[Option<u64>],
+    seats: &Table,
     owner: Owner,
     own: &Marked,
     term: &[Lit],
 ) -> bool
-    requires seats { AreSeats prefix.now seats.now }
+    requires seats { AreSeats prefix.now seats.now.items }
     requires own { own.now ≡ term.now }
     ensures { IsTrue result ↔ IsLeaf prefix.now (MayStand owner formula.now.matrix) term.now }
 {
@@ -281,13 +282,13 @@ pub fn is_leaf(
 fn judge_leaf(
     formula: &Formula,
     prefix: &[Bound],
-    seats: &[Option<u64>],
+    seats: &Table,
     owner: Owner,
     own: &Marked,
     term: &[Lit],
     fault: Fault,
 ) -> Option<Fault>
-    requires seats { AreSeats prefix.now seats.now }
+    requires seats { AreSeats prefix.now seats.now.items }
     requires own { own.now ≡ term.now }
     ensures { IsLeafJudged prefix.now (MayStand owner formula.now.matrix) term.now fault result }
 {
@@ -313,14 +314,14 @@ pub fn judge_line(
     desk: &mut Desk,
     formula: &Formula,
     prefix: &[Bound],
-    seats: &[Option<u64>],
+    seats: &Table,
     owner: Owner,
     trace: &Trace,
     term: &[Lit],
     found: Found,
     n: usize,
 ) -> Result<Option<Fault>, NoMemory>
-    requires seats { AreSeats prefix.now seats.now }
+    requires seats { AreSeats prefix.now seats.now.items }
     requires ready { IsReady n desk.old.away.drops desk.old.said }
     requires found { AreBefore (length trace.now.lines) found }
     requires bound { AreParentsBound prefix.now (found_parents (entries_of trace.now.lines) found) }

@@ -11,17 +11,13 @@ use crate::leaves::Owner;
 use crate::marked::Marked;
 use crate::resolving::{Away, put_away};
 use crate::tests::{is_clear_before, loses, outermost_taken};
+use q_certificate::Table;
 use q_extract::take_away;
 use q_logic::{Bound, Lit, NoMemory};
 
 /// The fault of a reduction, if it has one.
-pub fn fault_of(
-    prefix: &[Bound],
-    seats: &[Option<u64>],
-    marked: &Marked,
-    parent: &[Lit],
-) -> Option<Fault>
-    requires seats { AreSeats prefix.now seats.now }
+pub fn fault_of(prefix: &[Bound], seats: &Table, marked: &Marked, parent: &[Lit]) -> Option<Fault>
+    requires seats { AreSeats prefix.now seats.now.items }
     requires bound { AreBound prefix.now parent.now }
     ensures { IsReduction prefix.now parent.now marked.now result }
 {
@@ -39,12 +35,12 @@ pub fn fault_of(
 pub fn reduce(
     away: &mut Away,
     prefix: &[Bound],
-    seats: &[Option<u64>],
+    seats: &Table,
     owner: Owner,
     marked: &Marked,
     parent: &[Lit],
 ) -> Result<(), NoMemory>
-    requires seats { AreSeats prefix.now seats.now }
+    requires seats { AreSeats prefix.now seats.now.items }
     requires sound { AreSound away.old.drops }
     requires bound { AreBound prefix.now parent.now }
     ensures { OnOk result (IsTakenFrom owner prefix.now parent.now marked.now away.old.drops

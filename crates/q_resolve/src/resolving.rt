@@ -11,6 +11,7 @@ ghost use Rattle.q_resolve.specs.Reduced.{front_of, back_of, IsJoined, IsSame};
 use crate::leaves::Owner;
 use crate::marked::Marked;
 use crate::seats::seat;
+use q_certificate::Table;
 use q_extract::{Drops, no_drops, take_away};
 use q_logic::{Bound, Lit, NoMemory};
 use std::alloc::Global;
@@ -83,12 +84,12 @@ impl Away {
 fn push_front(
     row: &mut Vec<Lit>,
     prefix: &[Bound],
-    seats: &[Option<u64>],
+    seats: &Table,
     owner: Owner,
     at: u64,
     parent: &[Lit],
 ) -> Result<(), NoMemory>
-    requires { AreSeats prefix.now seats.now }
+    requires { AreSeats prefix.now seats.now.items }
     ensures { OnOk result (row.new.items ≡ row.old.items ++ map (sided owner) (front_of prefix.now at
         parent.now)) }
 {
@@ -103,12 +104,12 @@ fn push_front(
 fn push_back(
     row: &mut Vec<Lit>,
     prefix: &[Bound],
-    seats: &[Option<u64>],
+    seats: &Table,
     owner: Owner,
     at: u64,
     parent: &[Lit],
 ) -> Result<(), NoMemory>
-    requires { AreSeats prefix.now seats.now }
+    requires { AreSeats prefix.now seats.now.items }
     ensures { OnOk result (row.new.items ≡ row.old.items ++ map (sided owner) (back_of prefix.now at
         parent.now)) }
 {
@@ -124,12 +125,12 @@ fn push_back(
 pub fn put_away(
     away: &mut Away,
     prefix: &[Bound],
-    seats: &[Option<u64>],
+    seats: &Table,
     owner: Owner,
     at: u64,
     parent: &[Lit],
 ) -> Result<(), NoMemory>
-    requires seats { AreSeats prefix.now seats.now }
+    requires seats { AreSeats prefix.now seats.now.items }
     requires sound { AreSound away.old.drops }
     ensures more { OnOk result (IsMore away.old.drops away.new.drops (drops_of
         (values_next away.old.drops (map (sided owner) (back_of prefix.now at parent.now)))

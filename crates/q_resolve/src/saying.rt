@@ -11,6 +11,7 @@ use crate::leaves::Owner;
 use crate::marked::Marked;
 use crate::resolving::side;
 use crate::tests::is_both;
+use q_certificate::Table;
 use q_extract::{Drops, Merge, Said, Sayings, merge, say};
 use q_logic::{Bound, Lit, NoMemory};
 
@@ -122,7 +123,7 @@ pub fn say_resolved(
     drops: &mut Drops,
     said: &Sayings,
     prefix: &[Bound],
-    seats: &[Option<u64>],
+    seats: &Table,
     owner: Owner,
     i: usize,
     j: usize,
@@ -131,7 +132,7 @@ pub fn say_resolved(
     parent: &Marked,
     pivot: Lit,
 ) -> Result<(), NoMemory>
-    requires seats { AreSeats prefix.now seats.now }
+    requires seats { AreSeats prefix.now seats.now.items }
     requires sound { AreSound drops.old }
     requires fresh { (x : ℕ) → said_next drops.old x ≡ None }
     requires below { (m : ℕ) → (x : ℕ) → (n : ℕ) → said_in said.now m x ≡ Some n
@@ -172,11 +173,11 @@ pub fn keep(
     said: &mut Sayings,
     drops: &Drops,
     prefix: &[Bound],
-    seats: &[Option<u64>],
+    seats: &Table,
     own: &Marked,
     number: usize,
 ) -> Result<(), NoMemory>
-    requires seats { AreSeats prefix.now seats.now }
+    requires seats { AreSeats prefix.now seats.now.items }
     requires later { (x : ℕ) → said_in said.old number x ≡ None }
     ensures { OnOk result (IsKeptSaid prefix.now own.now number (said_next drops.now) said.old
         said.new) }

@@ -6,16 +6,16 @@ ghost use Rattle.q_logic.specs.Prefixes.{place, Distinct};
 ghost use Rattle.q_logic.specs.Exchanging.{exchanged, exchanged_bound, other_quant};
 ghost use Rattle.q_resolve.specs.Seats.{AreSeats};
 
-use q_certificate::{look, put};
+use q_certificate::{Table, look, put};
 use q_logic::{Bound, Lit, NoMemory, Quant};
 use std::alloc::Global;
 
 /// The place of each variable.
-pub fn seats_of(alloc: Global, prefix: &[Bound]) -> Result<Vec<Option<u64>>, NoMemory>
+pub fn seats_of(alloc: Global, prefix: &[Bound]) -> Result<Table, NoMemory>
     requires { Distinct prefix.now }
     ensures { IfOk result (λ seats. AreSeats prefix.now seats.items) }
 {
-    let mut seats = Vec::new(alloc);
+    let mut seats = Table::new(alloc);
     for i in 0..prefix.len() {
         put(&mut seats, prefix[i].var, Some(i as u64))?;
     }
@@ -23,8 +23,8 @@ pub fn seats_of(alloc: Global, prefix: &[Bound]) -> Result<Vec<Option<u64>>, NoM
 }
 
 /// Whether the variable is in the prefix.
-pub fn is_known(prefix: &[Bound], seats: &[Option<u64>], lit: Lit) -> bool
-    requires { AreSeats prefix.now seats.now }
+pub fn is_known(prefix: &[Bound], seats: &Table, lit: Lit) -> bool
+    requires { AreSeats prefix.now seats.now.items }
     ensures { result ≡ is_bound prefix.now lit.var }
 {
     match look(seats, lit.var()) {
@@ -34,8 +34,8 @@ pub fn is_known(prefix: &[Bound], seats: &[Option<u64>], lit: Lit) -> bool
 }
 
 /// The place of the variable, which is the length of the prefix where it is absent.
-pub fn seat(prefix: &[Bound], seats: &[Option<u64>], lit: Lit) -> u64
-    requires { AreSeats prefix.now seats.now }
+pub fn seat(prefix: &[Bound], seats: &Table, lit: Lit) -> u64
+    requires { AreSeats prefix.now seats.now.items }
     ensures { result ≡ place prefix.now lit.var }
 {
     match look(seats, lit.var()) {
@@ -55,8 +55,8 @@ fn exists_at(prefix: &[Bound], at: usize) -> bool
 }
 
 /// Whether the variable is an existential of the prefix: one of the owner.
-pub fn is_owned(prefix: &[Bound], seats: &[Option<u64>], lit: Lit) -> bool
-    requires { AreSeats prefix.now seats.now }
+pub fn is_owned(prefix: &[Bound], seats: &Table, lit: Lit) -> bool
+    requires { AreSeats prefix.now seats.now.items }
     ensures { result ≡ is_existential prefix.now lit.var }
 {
     match look(seats, lit.var()) {

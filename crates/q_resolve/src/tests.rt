@@ -8,11 +8,12 @@ ghost use Rattle.q_resolve.specs.Tests.{is_gone, is_away, is_front, is_other, is
 
 use crate::marked::Marked;
 use crate::seats::{is_known, is_owned, seat};
+use q_certificate::Table;
 use q_logic::{Bound, Lit};
 
 /// Whether each variable is in the prefix.
-pub fn are_bound(prefix: &[Bound], seats: &[Option<u64>], lits: &[Lit]) -> bool
-    requires { AreSeats prefix.now seats.now }
+pub fn are_bound(prefix: &[Bound], seats: &Table, lits: &[Lit]) -> bool
+    requires { AreSeats prefix.now seats.now.items }
     ensures { result ≡ every (λ (k : Literal). is_bound prefix.now k.var) lits.now }
 {
     for k in lits {
@@ -24,8 +25,8 @@ pub fn are_bound(prefix: &[Bound], seats: &[Option<u64>], lits: &[Lit]) -> bool
 }
 
 // Whether a literal of the owner meets its negation among the marked ones.
-fn meets(prefix: &[Bound], seats: &[Option<u64>], marked: &Marked, lit: Lit) -> bool
-    requires { AreSeats prefix.now seats.now }
+fn meets(prefix: &[Bound], seats: &Table, marked: &Marked, lit: Lit) -> bool
+    requires { AreSeats prefix.now seats.now.items }
     ensures { result ≡ is_other prefix.now marked.now lit }
 {
     if !marked.has(lit.negated()) {
@@ -35,8 +36,8 @@ fn meets(prefix: &[Bound], seats: &[Option<u64>], marked: &Marked, lit: Lit) -> 
 }
 
 /// Whether some literal of the owner does.
-pub fn some_meets(prefix: &[Bound], seats: &[Option<u64>], marked: &Marked, lits: &[Lit]) -> bool
-    requires { AreSeats prefix.now seats.now }
+pub fn some_meets(prefix: &[Bound], seats: &Table, marked: &Marked, lits: &[Lit]) -> bool
+    requires { AreSeats prefix.now seats.now.items }
     ensures { result ≡ some (λ (k : Literal). is_other prefix.now marked.now k) lits.now }
 {
     for k in lits {
@@ -48,8 +49,8 @@ pub fn some_meets(prefix: &[Bound], seats: &[Option<u64>], marked: &Marked, lits
 }
 
 /// Whether a literal of the opponent meets its negation among the marked ones: whether it is a pivot.
-pub fn is_pivot(prefix: &[Bound], seats: &[Option<u64>], marked: &Marked, lit: Lit) -> bool
-    requires { AreSeats prefix.now seats.now }
+pub fn is_pivot(prefix: &[Bound], seats: &Table, marked: &Marked, lit: Lit) -> bool
+    requires { AreSeats prefix.now seats.now.items }
     ensures { result ≡ is_turning prefix.now marked.now lit }
 {
     if !marked.has(lit.negated()) {
@@ -59,8 +60,8 @@ pub fn is_pivot(prefix: &[Bound], seats: &[Option<u64>], marked: &Marked, lit: L
 }
 
 // Whether a literal, if it is one of the owner that meets its negation among the marked ones, stands behind the pivot.
-fn is_after(prefix: &[Bound], seats: &[Option<u64>], marked: &Marked, at: u64, lit: Lit) -> bool
-    requires { AreSeats prefix.now seats.now }
+fn is_after(prefix: &[Bound], seats: &Table, marked: &Marked, at: u64, lit: Lit) -> bool
+    requires { AreSeats prefix.now seats.now.items }
     ensures { result ≡ is_after_spec prefix.now marked.now at lit }
 {
     if !meets(prefix, seats, marked, lit) {
@@ -72,12 +73,12 @@ fn is_after(prefix: &[Bound], seats: &[Option<u64>], marked: &Marked, at: u64, l
 /// Whether each one does: whether the pivot may merge.
 pub fn may_merge(
     prefix: &[Bound],
-    seats: &[Option<u64>],
+    seats: &Table,
     marked: &Marked,
     first: &[Lit],
     pivot: Lit,
 ) -> bool
-    requires { AreSeats prefix.now seats.now }
+    requires { AreSeats prefix.now seats.now.items }
     ensures { result ≡ every (λ (g : Literal). is_after_spec prefix.now marked.now
         (place prefix.now pivot.var) g) first.now }
 {
@@ -91,8 +92,8 @@ pub fn may_merge(
 }
 
 // Whether a literal of the owner meets its negation in the line, but is not in the parent.
-fn is_anew(prefix: &[Bound], seats: &[Option<u64>], own: &Marked, parent: &Marked, lit: Lit) -> bool
-    requires { AreSeats prefix.now seats.now }
+fn is_anew(prefix: &[Bound], seats: &Table, own: &Marked, parent: &Marked, lit: Lit) -> bool
+    requires { AreSeats prefix.now seats.now.items }
     ensures { result ≡ is_anew_spec prefix.now own.now parent.now lit }
 {
     if !meets(prefix, seats, own, lit) {
@@ -104,12 +105,12 @@ fn is_anew(prefix: &[Bound], seats: &[Option<u64>], own: &Marked, parent: &Marke
 /// Whether some literal of the line is such a one.
 pub fn merges_anew(
     prefix: &[Bound],
-    seats: &[Option<u64>],
+    seats: &Table,
     own: &Marked,
     parent: &Marked,
     term: &[Lit],
 ) -> bool
-    requires { AreSeats prefix.now seats.now }
+    requires { AreSeats prefix.now seats.now.items }
     ensures { result ≡ some (λ (k : Literal). is_anew_spec prefix.now own.now parent.now k) term.now }
 {
     for k in term {
@@ -121,8 +122,8 @@ pub fn merges_anew(
 }
 
 /// Whether a literal is the positive one of two that the line holds of a variable of the owner.
-pub fn is_both(prefix: &[Bound], seats: &[Option<u64>], marked: &Marked, lit: Lit) -> bool
-    requires { AreSeats prefix.now seats.now }
+pub fn is_both(prefix: &[Bound], seats: &Table, marked: &Marked, lit: Lit) -> bool
+    requires { AreSeats prefix.now seats.now.items }
     ensures { result ≡ is_both_spec prefix.now marked.now lit }
 {
     if lit.negative() {
@@ -132,8 +133,8 @@ pub fn is_both(prefix: &[Bound], seats: &[Option<u64>], marked: &Marked, lit: Li
 }
 
 // Whether a literal of the opponent is not among the marked ones.
-fn is_lost(prefix: &[Bound], seats: &[Option<u64>], marked: &Marked, lit: Lit) -> bool
-    requires { AreSeats prefix.now seats.now }
+fn is_lost(prefix: &[Bound], seats: &Table, marked: &Marked, lit: Lit) -> bool
+    requires { AreSeats prefix.now seats.now.items }
     ensures { result ≡ is_gone prefix.now marked.now lit }
 {
     if marked.has(lit) {
@@ -143,8 +144,8 @@ fn is_lost(prefix: &[Bound], seats: &[Option<u64>], marked: &Marked, lit: Lit) -
 }
 
 /// Whether some literal of the opponent is not.
-pub fn loses(prefix: &[Bound], seats: &[Option<u64>], marked: &Marked, parent: &[Lit]) -> bool
-    requires { AreSeats prefix.now seats.now }
+pub fn loses(prefix: &[Bound], seats: &Table, marked: &Marked, parent: &[Lit]) -> bool
+    requires { AreSeats prefix.now seats.now.items }
     ensures { result ≡ some (λ (k : Literal). is_gone prefix.now marked.now k) parent.now }
 {
     for k in parent {
@@ -156,8 +157,8 @@ pub fn loses(prefix: &[Bound], seats: &[Option<u64>], marked: &Marked, parent: &
 }
 
 // Whether a literal of the owner is not among the marked ones.
-fn is_taken(prefix: &[Bound], seats: &[Option<u64>], marked: &Marked, lit: Lit) -> bool
-    requires { AreSeats prefix.now seats.now }
+fn is_taken(prefix: &[Bound], seats: &Table, marked: &Marked, lit: Lit) -> bool
+    requires { AreSeats prefix.now seats.now.items }
     ensures { result ≡ is_away prefix.now marked.now lit }
 {
     if marked.has(lit) {
@@ -167,13 +168,8 @@ fn is_taken(prefix: &[Bound], seats: &[Option<u64>], marked: &Marked, lit: Lit) 
 }
 
 /// The place of the outermost literal of the owner that is not among the marked ones, or the length of the prefix.
-pub fn outermost_taken(
-    prefix: &[Bound],
-    seats: &[Option<u64>],
-    marked: &Marked,
-    parent: &[Lit],
-) -> u64
-    requires { AreSeats prefix.now seats.now }
+pub fn outermost_taken(prefix: &[Bound], seats: &Table, marked: &Marked, parent: &[Lit]) -> u64
+    requires { AreSeats prefix.now seats.now.items }
     ensures { result ≡ outermost prefix.now marked.now parent.now }
 {
     let mut least = prefix.len() as u64;
@@ -189,8 +185,8 @@ pub fn outermost_taken(
 }
 
 // Whether a literal is one of the owner, or stands before a place.
-fn is_clear(prefix: &[Bound], seats: &[Option<u64>], at: u64, lit: Lit) -> bool
-    requires { AreSeats prefix.now seats.now }
+fn is_clear(prefix: &[Bound], seats: &Table, at: u64, lit: Lit) -> bool
+    requires { AreSeats prefix.now seats.now.items }
     ensures { result ≡ is_front prefix.now at lit }
 {
     if is_owned(prefix, seats, lit) {
@@ -200,8 +196,8 @@ fn is_clear(prefix: &[Bound], seats: &[Option<u64>], at: u64, lit: Lit) -> bool
 }
 
 /// Whether each literal of the opponent stands before a place.
-pub fn is_clear_before(prefix: &[Bound], seats: &[Option<u64>], at: u64, parent: &[Lit]) -> bool
-    requires { AreSeats prefix.now seats.now }
+pub fn is_clear_before(prefix: &[Bound], seats: &Table, at: u64, parent: &[Lit]) -> bool
+    requires { AreSeats prefix.now seats.now.items }
     ensures { result ≡ every (λ (k : Literal). is_front prefix.now at k) parent.now }
 {
     for k in parent {

@@ -11,7 +11,7 @@ use crate::joining::join;
 use crate::node::Decision;
 use crate::picks::{Pick, Picks};
 use q_aig::Aig;
-use q_certificate::{look, open_inputs};
+use q_certificate::{Table, look, open_inputs};
 use q_logic::{Bound, NoMemory, Quant};
 use std::alloc::Global;
 use std::mem;
@@ -20,7 +20,7 @@ use std::mem;
 #[derive(Drop)]
 pub struct Circuits {
     pub aig: Aig,
-    pub inputs: Vec<Option<u64>>,
+    pub inputs: Table,
     pub current: Picks,
     pub aside: Vec<Picks>,
 }
@@ -103,7 +103,7 @@ impl Circuits {
     fn put_aside(&mut self) -> Result<(), NoMemory>
         ensures { OnOk result ((x depth : ℕ) → IsPassed Forall false x depth self.old self.new) }
     {
-        let alloc = *self.inputs.allocator();
+        let alloc = *self.aside.allocator();
         let side = mem::replace(&mut self.current, Picks::new(alloc));
         self.aside.push(side)?;
         Ok(())

@@ -9,12 +9,12 @@ ghost use Rattle.q_solve.specs.Written.{AreEntries, IsWritten};
 use crate::circuits::Circuits;
 use crate::picks::{Pick, take};
 use q_aig::Certificate;
-use q_certificate::{name_outputs, put};
+use q_certificate::{Table, name_outputs, put};
 use q_logic::{Bound, NoMemory, Quant};
 use std::alloc::Global;
 
 // Enters an existential.
-fn enter(table: &mut Vec<Option<u64>>, bound: Bound, lit: u64) -> Result<(), NoMemory>
+fn enter(table: &mut Table, bound: Bound, lit: u64) -> Result<(), NoMemory>
     ensures { OnOk result ((x : ℕ) → look_at table.new.items x
         ≡ (if is_exists bound.quant && (x == bound.var) then Some lit
         else look_at table.old.items x)) }
@@ -29,13 +29,13 @@ fn enter(table: &mut Vec<Option<u64>>, bound: Bound, lit: u64) -> Result<(), NoM
 }
 
 // The literal of each existential, by its variable.
-fn tabulate(alloc: Global, prefix: &[Bound], row: &[Pick]) -> Result<Vec<Option<u64>>, NoMemory>
+fn tabulate(alloc: Global, prefix: &[Bound], row: &[Pick]) -> Result<Table, NoMemory>
     requires distinct { Distinct prefix.now }
     requires row { IsRow 0 row.now }
     requires within { AreBelow (suc (length prefix.now)) row.now }
     ensures { IfOk result (λ table. AreEntries prefix.now 0 row.now table.items) }
 {
-    let mut table = Vec::new(alloc);
+    let mut table = Table::new(alloc);
     let mut at = 0;
     let mut depth = prefix.len();
     while depth > 0 {
@@ -55,7 +55,7 @@ pub fn certificate(circuits: Circuits, prefix: &[Bound]) -> Result<Certificate, 
     requires within { AreBelow (suc (length prefix.now)) circuits.current }
     ensures { IfOk result (IsWritten circuits.aig prefix.now circuits.current) }
 {
-    let alloc = *circuits.inputs.allocator();
+    let alloc = *circuits.aside.allocator();
     let table = tabulate(alloc, prefix, circuits.current.as_slice())?;
     let made = name_outputs(circuits.aig, prefix, &table)?;
     Ok(made)

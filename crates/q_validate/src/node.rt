@@ -15,6 +15,7 @@ use crate::known::fill;
 use crate::line::Since;
 use crate::words::{DEPTH, Known, node_at};
 use q_aig::Certificate;
+use q_certificate::Table;
 use q_logic::{Bound, Formula, NoMemory, Quant, Verdict};
 use q_search::{PlaceTable, Position};
 use std::alloc::Global;
@@ -43,7 +44,7 @@ pub struct Line {
 pub struct Node<'a> {
     formula: &'a Formula,
     certificate: &'a Certificate,
-    circuits: Vec<Option<u64>>,
+    circuits: Table,
     places: PlaceTable,
     path: Vec<bool>,
     block: Option<Block>,
@@ -115,7 +116,7 @@ impl<'a> Node<'a> {
         alloc: Global,
         formula: &'a Formula,
         certificate: &'a Certificate,
-        circuits: Vec<Option<u64>>,
+        circuits: Table,
     ) -> Result<Node<'a>, NoMemory>
         requires circuits { AreCircuits (net_of certificate.now) (trees_of certificate.now)
             circuits.items }

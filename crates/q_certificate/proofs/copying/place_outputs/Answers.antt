@@ -15,6 +15,11 @@ loop-i-preserved c =
     let d : drop (c.loop-i.i - 1) c.args.outputs.now ≡ get_or c.args.outputs.now (c.loop-i.i - 1) no_output ∷ drop c.loop-i.i c.args.outputs.now = drop_more c.args.outputs.now (c.loop-i.i - 1) no_output lt ∙ ap (λ (n : ℕ). get_or c.args.outputs.now (c.loop-i.i - 1) no_output ∷ drop n c.args.outputs.now) back in
     record {
       bound = omega arith;
-      placed = subst (λ (os : List Output). ArePlaced c.args.old.now c.args.inputs.now c.args.row.now c.args.outputs.now os c.put.new.row.items) (sym d)
-          (placed-more c.args.old.now c.args.inputs.now c.loop-i.circuits.items c.put.new.row.items c.args.row.now c.args.outputs.now (drop c.loop-i.i c.args.outputs.now) (c.loop-i.i - 1) c.translate-lit.result (get_or c.args.outputs.now (c.loop-i.i - 1) no_output) refl lt (c.requires.outputs.literals (c.loop-i.i - 1) lt) c.loop-i.invariant.placed c.translate-lit.ensures c.in_ok-put.ensures.ok);
+      placed = subst (λ (os : List Output). ArePlaced c.args.old.now c.args.inputs.now.items c.args.row.now c.args.outputs.now os c.put.new.row.items) (sym d)
+          (placed-more c.args.old.now c.args.inputs.now.items c.loop-i.circuits.items c.put.new.row.items c.args.row.now c.args.outputs.now (drop c.loop-i.i c.args.outputs.now) (c.loop-i.i - 1) c.translate-lit.result (get_or c.args.outputs.now (c.loop-i.i - 1) no_output) refl lt (c.requires.outputs.literals (c.loop-i.i - 1) lt) c.loop-i.invariant.placed c.translate-lit.ensures c.in_ok-put.ensures.ok);
     }
+
+pub returns : goal.returns
+returns c =
+    let none : c.loop-i.i ≡ 0 = omega arith in
+    subst (λ (n : ℕ). ArePlaced c.args.old.now c.args.inputs.now.items c.args.row.now c.args.outputs.now (drop n c.args.outputs.now) c.loop-i.circuits.items) none c.loop-i.invariant.placed

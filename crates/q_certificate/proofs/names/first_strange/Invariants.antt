@@ -6,4 +6,4 @@ use Rattle.q_certificate.specs.Refusals.{first_strange}
 use Rattle.q_certificate.proofs.names.first_strange.Given as goal
 
 abbrev pub invariant-loop-i : goal.invariant-loop-i
-invariant-loop-i l = (P : Prefix) → AreExistentials P l.table → first_strange P (map output_of l.outputs) ≡ first_strange P (map output_of (drop l.i l.outputs))
+invariant-loop-i l = (P : Prefix) → AreExistentials P l.table.items → first_strange P (map output_of l.outputs) ≡ first_strange P (map output_of (drop l.i l.outputs))

@@ -8,18 +8,18 @@ use Rattle.q_certificate.proofs.narrowing.narrow.Goals as goal
 
 pub name_outputs-requires-clause-literals : goal.name_outputs-requires-clause-literals
 name_outputs-requires-clause-literals c =
-    let copied = rw (c.deref.ensures.value, c.deref-2.ensures.value) at c.in_ok-row.ensures in
-    let placed = rw (c.deref-3.ensures.value, c.deref-4.ensures.value) at c.in_ok-circuits.ensures in
-    rw (c.deref-5.ensures.value) (placed.literals c.copy_gates.new.aig (literals-kept c.open_inputs.new.aig c.copy_gates.new.aig c.in_ok-inputs.inputs.items copied.grown.kept c.in_ok-inputs.ensures.literals) copied.there)
+    let copied = rw (c.deref.ensures.value) at c.in_ok-row.ensures in
+    let placed = rw (c.deref-2.ensures.value) at c.in_ok-circuits.ensures in
+    (placed.literals c.copy_gates.new.aig (literals-kept c.open_inputs.new.aig c.copy_gates.new.aig c.in_ok-inputs.inputs.items copied.grown.kept c.in_ok-inputs.ensures.literals) copied.there)
 
 pub returns : goal.returns
 returns c = λ lawful.
     let e = c.aig-old.ensures in
     let marked : AreMarked c.args.given.now.gates c.outputs-outputs.result.now c.in_ok-marks.marks.items = subst (λ (n : Net). AreMarked n.gates c.outputs-outputs.result.now c.in_ok-marks.marks.items) e c.in_ok-marks.ensures.marked in
-    let copied = rw (c.deref.ensures.value, c.deref-2.ensures.value) at c.in_ok-row.ensures in
+    let copied = rw (c.deref.ensures.value) at c.in_ok-row.ensures in
     let copied2 : AreCopied (net_of c.args.given.now) c.in_ok-marks.marks.items c.in_ok-inputs.inputs.items c.open_inputs.new.aig c.copy_gates.new.aig c.in_ok-row.row.items (length c.args.given.now.gates) = subst (λ (n : Net). AreCopied n c.in_ok-marks.marks.items c.in_ok-inputs.inputs.items c.open_inputs.new.aig c.copy_gates.new.aig c.in_ok-row.row.items (length n.gates)) e copied in
-    let placed = rw (c.deref-3.ensures.value, c.deref-4.ensures.value) at c.in_ok-circuits.ensures in
+    let placed = rw (c.deref-2.ensures.value) at c.in_ok-circuits.ensures in
     let placed2 : ArePlaced (net_of c.args.given.now) c.in_ok-inputs.inputs.items c.in_ok-row.row.items c.outputs-outputs.result.now c.outputs-outputs.result.now c.in_ok-circuits.circuits.items = subst (λ (n : Net). ArePlaced n c.in_ok-inputs.inputs.items c.in_ok-row.row.items c.outputs-outputs.result.now c.outputs-outputs.result.now c.in_ok-circuits.circuits.items) e placed in
-    let named : IsNamed c.copy_gates.new.aig c.in_ok-made.made c.in_ok-circuits.circuits.items c.args.prefix.now = rw (c.deref-5.ensures.value) at c.in_ok-made.ensures in
+    let named : IsNamed c.copy_gates.new.aig c.in_ok-made.made c.in_ok-circuits.circuits.items c.args.prefix.now = c.in_ok-made.ensures in
     narrowed c.args.prefix.now c.args.given.now c.in_ok-made.made c.outputs-outputs.result.now c.open_inputs.new.aig c.copy_gates.new.aig c.in_ok-inputs.inputs.items c.in_ok-circuits.circuits.items c.in_ok-marks.marks.items c.in_ok-row.row.items
     c.requires.distinct c.outputs-outputs.ensures.value c.outputs-outputs.ensures.lawful c.in_ok-inputs.ensures marked copied2 placed2 named lawful

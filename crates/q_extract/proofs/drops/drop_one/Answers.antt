@@ -8,5 +8,5 @@ returns c =
     more-one c.args.drops.now (record { guards = c.args.drops.now.guards; row = c.push.new.self; last = c.put.new.row; merges = c.args.drops.now.merges; said = c.args.drops.now.said })
     (record { lit = c.args.lit; guard = c.args.guard; before = c.look-before.result })
     c.requires.sound c.requires.guard refl refl refl c.in_ok-push.ensures.items
-    (rw (c.deref.ensures.value, c.var.ensures.value) at c.look-before.ensures)
+    (rw (c.var.ensures.value) at c.look-before.ensures)
     (λ x. rw (← place, ← c.var-2.ensures.value) (c.in_ok-put.ensures.ok x))

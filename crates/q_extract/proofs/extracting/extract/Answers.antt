@@ -25,8 +25,8 @@ loop-i-init c =
       none = none;
       base = base;
       nodes = merging-nodes c.open_inputs.new.aig c.merge_nodes.new.aig c.in_ok-inputs.inputs.items _ ms c.in_ok-nodes.nodes.items (is_universal P)
-          (opened-at P c.open_inputs.new.aig c.in_ok-inputs.inputs.items _ opened c.new.ensures.items) c.requires.pivots (rw c.deref.ensures.value at c.in_ok-nodes.ensures);
-      built = built-start P (guards_in c.args.drops.now) (drops_in c.args.drops.now) c.merge_nodes.new.aig c.in_ok-inputs.inputs.items _ c.in_ok-held.held.items (length ms) c.new.ensures.items base none;
+          (opened-at P c.open_inputs.new.aig c.in_ok-inputs.inputs.items _ opened c.new.ensures) c.requires.pivots (rw c.deref.ensures.value at c.in_ok-nodes.ensures);
+      built = built-start P (guards_in c.args.drops.now) (drops_in c.args.drops.now) c.merge_nodes.new.aig c.in_ok-inputs.inputs.items _ c.in_ok-held.held.items (length ms) c.new.ensures base none;
     }
 
 pub enter-requires-clause-nodes : goal.enter-requires-clause-nodes
@@ -55,11 +55,11 @@ returns-clause-extracted c =
     let P = c.args.prefix.now in
     let le : length P ≤ c.loop-i.i = c.loop-i-test.false in
     extracted P (guards_in c.args.drops.now) (drops_in c.args.drops.now) c.merge_nodes.new.aig c.loop-i.aig c.in_ok-made.made c.in_ok-inputs.inputs.items c.loop-i.tables.circuits.items c.in_ok-held.held.items c.loop-i.held.items c.loop-i.i (length c.args.drops.now.merges.items) c.requires.distinct c.requires.behind c.loop-i.invariant.base le c.loop-i.invariant.built
-    (subst (λ (tb : List (Option ℕ)). IsNamed c.loop-i.aig c.in_ok-made.made tb P) c.deref-2.ensures.value c.in_ok-made.ensures)
+    c.in_ok-made.ensures
 
 pub returns-clause-shared : goal.returns-clause-shared
 returns-clause-shared c =
     let P = c.args.prefix.now in
     let le : length P ≤ c.loop-i.i = c.loop-i-test.false in
     extracted-shared P (guards_in c.args.drops.now) (drops_in c.args.drops.now) c.merge_nodes.new.aig c.loop-i.aig c.in_ok-made.made c.in_ok-inputs.inputs.items c.loop-i.tables.circuits.items c.in_ok-held.held.items c.loop-i.held.items c.loop-i.i (length c.args.drops.now.merges.items) c.requires.distinct c.loop-i.invariant.base le c.loop-i.invariant.built
-    (subst (λ (tb : List (Option ℕ)). IsNamed c.loop-i.aig c.in_ok-made.made tb P) c.deref-2.ensures.value c.in_ok-made.ensures) c.loop-i.invariant.none
+    c.in_ok-made.ensures c.loop-i.invariant.none

@@ -7,7 +7,7 @@ returns-then-node-count c =
     let n : c.len-count.result ≡ length c.args.slots.now.definitions.items =
     omega (arith, c.len-count.ensures, c.args.slots.now.definitions.ok.0) in
     let t : c.args.node < c.len-count.result = c.if-node-count.true in
-    slot-built c.args.draft.now c.args.aig.now c.args.slots.now c.args.inputs.now c.args.made.now _ c.args.node
+    slot-built c.args.draft.now c.args.aig.now c.args.slots.now c.args.inputs.now.items c.args.made.now _ c.args.node
     c.slot_literal-lit.result c.requires.slots c.requires.owned c.requires.inputs c.requires.at c.requires.rows
     (omega arith) c.slot_literal-lit.ensures refl refl
 

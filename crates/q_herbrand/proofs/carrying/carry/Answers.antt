@@ -1,4 +1,4 @@
-use Rattle.std.proofs.Common.{List, ℕ, Option, subst, sym, refl, ◌∙◌}
+use Rattle.std.proofs.Common.{List, ℕ, Option, subst, sym, refl}
 use Rattle.q_logic.specs.Prelude.{Prefix, Distinct}
 use Rattle.q_certificate.specs.Prelude.{IsNamed, AreLiterals, InputsAt, is_there, look_at}
 use Rattle.q_logic.specs.Exchanging.{exchanged}
@@ -17,18 +17,18 @@ settle-requires-clause-slots c = c.in_ok-draft.ensures.ready.slots
 pub settle-requires-clause-owned : goal.settle-requires-clause-owned
 settle-requires-clause-owned c =
     subst (λ (ins : List (Option ℕ)). AreOwned c.in_ok-draft.draft.aig.inputs ins c.in_ok-draft.draft.slots)
-    (sym (c.deref.ensures.value ∙ c.in_ok-draft.ensures.inputs)) c.in_ok-draft.ensures.ready.owned
+    (sym c.in_ok-draft.ensures.inputs) c.in_ok-draft.ensures.ready.owned
 
 pub settle-requires-clause-inputs : goal.settle-requires-clause-inputs
 settle-requires-clause-inputs c =
-    subst (AreLiterals c.open.new.aig) (sym (c.deref.ensures.value ∙ c.in_ok-draft.ensures.inputs))
+    subst (AreLiterals c.open.new.aig) (sym c.in_ok-draft.ensures.inputs)
     (inputs-literals c.open.new.aig c.open.new.aig.inputs c.in_ok-inputs.inputs.items c.in_ok-inputs.ensures.inputs
     refl)
 
 pub settle-requires-clause-at : goal.settle-requires-clause-at
 settle-requires-clause-at c =
     subst (λ (ins : List (Option ℕ)). InputsAt c.open.new.aig ins (λ x. is_there (look_at ins x)))
-    (sym (c.deref.ensures.value ∙ c.in_ok-draft.ensures.inputs))
+    (sym c.in_ok-draft.ensures.inputs)
     (inputs-at c.open.new.aig c.open.new.aig.inputs c.in_ok-inputs.inputs.items c.in_ok-inputs.ensures.inputs refl)
 
 pub settle-requires-clause-resolved : goal.settle-requires-clause-resolved
@@ -57,9 +57,8 @@ name_outputs-requires-clause-distinct c = subst Distinct (sym c.requires.turned)
 
 pub name_outputs-requires-clause-literals : goal.name_outputs-requires-clause-literals
 name_outputs-requires-clause-literals c =
-    subst (AreLiterals c.settle.new.aig) (sym c.deref-2.ensures.value)
-    (chosen-literals c.args.turned.now c.in_ok-draft.draft c.in_ok-settled.settled c.settle.new.aig
-    c.in_ok-draft.draft.slots c.in_ok-row.row.items c.in_ok-settled.ensures.rows c.in_ok-row.ensures)
+    chosen-literals c.args.turned.now c.in_ok-draft.draft c.in_ok-settled.settled c.settle.new.aig
+    c.in_ok-draft.draft.slots c.in_ok-row.row.items c.in_ok-settled.ensures.rows c.in_ok-row.ensures
 
 pub returns : goal.returns
 returns c =
@@ -71,7 +70,7 @@ returns c =
     c.in_ok-row.row.items) c.requires.turned c.in_ok-row.ensures in
     let named : IsNamed c.settle.new.aig c.in_ok-made.made c.in_ok-row.row.items
     (exchanged c.args.input.now.prefix) = subst (IsNamed c.settle.new.aig c.in_ok-made.made c.in_ok-row.row.items)
-    c.requires.turned (rw (c.deref-2.ensures.value) at c.in_ok-made.ensures) in
+    c.requires.turned c.in_ok-made.ensures in
     widened c.args.input.now c.args.reversals.now c.args.given.now c.open.new.aig c.in_ok-inputs.inputs.items
     c.in_ok-draft.draft c.prefix-prefix.ensures.proper.formula c.requires.run opened c.in_ok-draft.ensures
     c.settle.new.aig c.in_ok-settled.settled c.in_ok-row.row.items c.in_ok-made.made c.in_ok-settled.ensures

@@ -12,18 +12,18 @@ returns c =
     subst (λ (n : Net). AreMarked n.gates c.outputs-outputs.result.now c.in_ok-marks.marks.items) e
     c.in_ok-marks.ensures.marked in
     let copied = rw (c.deref.ensures.value) at c.in_ok-gates.ensures in
-    let copied2 : AreCopied (net_of c.args.given.now) c.in_ok-marks.marks.items c.args.inputs.now c.args.aig.now
+    let copied2 : AreCopied (net_of c.args.given.now) c.in_ok-marks.marks.items c.args.inputs.now.items c.args.aig.now
     c.copy_gates.new.aig c.in_ok-gates.gates.items (length c.args.given.now.gates) =
-    subst (λ (n : Net). AreCopied n c.in_ok-marks.marks.items c.args.inputs.now c.args.aig.now
+    subst (λ (n : Net). AreCopied n c.in_ok-marks.marks.items c.args.inputs.now.items c.args.aig.now
     c.copy_gates.new.aig c.in_ok-gates.gates.items (length n.gates)) e copied in
     let placed = rw (c.deref-2.ensures.value) at c.in_ok-circuits.ensures in
-    let placed2 : ArePlaced (net_of c.args.given.now) c.args.inputs.now c.in_ok-gates.gates.items
+    let placed2 : ArePlaced (net_of c.args.given.now) c.args.inputs.now.items c.in_ok-gates.gates.items
     c.outputs-outputs.result.now c.outputs-outputs.result.now c.in_ok-circuits.circuits.items =
-    subst (λ (n : Net). ArePlaced n c.args.inputs.now c.in_ok-gates.gates.items
+    subst (λ (n : Net). ArePlaced n c.args.inputs.now.items c.in_ok-gates.gates.items
     c.outputs-outputs.result.now c.outputs-outputs.result.now c.in_ok-circuits.circuits.items) e placed in
-    let merged : AreMerged c.in_ok-circuits.circuits.items c.args.inputs.now c.in_ok-row.row.items =
-    rw (c.deref-3.ensures.value) at c.in_ok-row.ensures in
-    copied-into c.args.aig.now c.copy_gates.new.aig c.args.inputs.now c.in_ok-circuits.circuits.items
+    let merged : AreMerged c.in_ok-circuits.circuits.items c.args.inputs.now.items c.in_ok-row.row.items =
+    c.in_ok-row.ensures in
+    copied-into c.args.aig.now c.copy_gates.new.aig c.args.inputs.now.items c.in_ok-circuits.circuits.items
     c.in_ok-row.row.items c.args.given.now c.outputs-outputs.result.now c.in_ok-marks.marks.items
     c.in_ok-gates.gates.items c.requires.inputs c.outputs-outputs.ensures.value c.outputs-outputs.ensures.lawful marked
     copied2 placed2 merged

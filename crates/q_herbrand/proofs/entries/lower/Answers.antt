@@ -8,7 +8,6 @@ returns-in_ok-put c = λ ins li.
     let v : c.var.result ≡ c.args.lit.var = c.var.ensures.value in
     let is : look_at c.args.circuits.now.items c.args.lit.var ≡ Some c.in-Some.circuit =
     ap (λ (x : ℕ). look_at c.args.circuits.now.items x) (sym v)
-    ∙ ap (λ (row : List (Option ℕ)). look_at row c.var.result) (sym c.deref.ensures.value)
     ∙ sym c.in-Some.ensures in
     let ra : IsRaised c.args.aig.now c.raise.new.aig (not c.args.lit.negative) c.in-Some.circuit c.args.q
     c.in_ok-lowered.lowered = subst (λ (b : Bool). IsRaised c.args.aig.now c.raise.new.aig (not b)

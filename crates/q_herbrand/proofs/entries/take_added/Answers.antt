@@ -16,7 +16,7 @@ returns-in_ok-to-in-Some-clause-taken c =
     let s : (c.args.pivot.var < length c.args.slots.now.current.items) × (c.in-Some.before ≡ slot_at
     c.args.slots.now.current.items c.args.pivot.var) ×
     (has_input c.args.tables.now.inputs.items c.args.pivot.var ≡ true) =
-    rw (c.deref.ensures.value, c.var.ensures.value) at c.in-Some.ensures in
+    rw (c.var.ensures.value) at c.in-Some.ensures in
     let new : IsRenewed c.args.aig.now c.renew.new.aig c.args.tables.now.circuits.items c.renew.new.circuits.items
     c.args.slots.now c.renew.new.slots c.args.pivot.var c.in_ok-lit-in-Some.lit =
     rw (c.var-in-Some.ensures.value) at c.in_ok-lit-in-Some.ensures in

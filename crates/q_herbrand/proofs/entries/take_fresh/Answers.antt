@@ -8,7 +8,7 @@ pub returns-in_ok-_lit-in-Some-clause-taken : goal.returns-in_ok-_lit-in-Some-cl
 returns-in_ok-_lit-in-Some-clause-taken c =
     let s : (c.args.var < length c.args.slots.now.current.items) × (c.in-Some.before ≡ slot_at
     c.args.slots.now.current.items c.args.var) × (has_input c.args.tables.now.inputs.items c.args.var ≡ true) =
-    rw (c.deref.ensures.value) at c.in-Some.ensures in
+    c.in-Some.ensures in
     taken-fresh c.args.aig.now c.renew.new.aig c.args.tables.now.inputs.items c.args.tables.now.circuits.items
     c.renew.new.circuits.items c.args.slots.now c.renew.new.slots c.fill.new.slots c.args.var
     c.in_ok-_lit-in-Some._lit c.constant.result c.inputs.ensures.net c.requires s.0 s.2

@@ -10,7 +10,6 @@ returns-in_ok-put-clause-carried c =
     let v : c.var.result ≡ c.args.pivot.var = c.var.ensures.value in
     let is : look_at c.args.tables.now.circuits.items c.args.pivot.var ≡ Some c.in-Some.circuit =
     ap (λ (x : ℕ). look_at c.args.tables.now.circuits.items x) (sym v)
-    ∙ ap (λ (row : List (Option ℕ)). look_at row c.var.result) (sym c.deref.ensures.value)
     ∙ sym c.in-Some.ensures in
     let ra : IsRaised c.all_of.new.aig c.raise.new.aig (not c.args.pivot.negative) c.in-Some.circuit c.in_ok-all.all
     c.in_ok-lowered.lowered = subst (λ (b : Bool). IsRaised c.all_of.new.aig c.raise.new.aig (not b)

@@ -1,4 +1,4 @@
-use Rattle.std.proofs.Common.{◌∙◌, [], sym, subst}
+use Rattle.std.proofs.Common.{◌∙◌, [], sym, subst, List, Option, ℕ}
 use Rattle.q_logic.specs.Prelude.{Prefix, Distinct}
 use Rattle.q_certificate.specs.Prelude.{IsNamed}
 use Rattle.q_herbrand.proofs.ZeroCircuits.{in-distinct, zeros-of}
@@ -12,4 +12,4 @@ pub returns : goal.returns
 returns c =
     zeros-of c.args.scope.now c.args.prefix.now c.new.result c.in_ok-made.made c.new.ensures c.requires.among
     (subst (λ (P : Prefix). IsNamed c.new.result c.in_ok-made.made [] P) (c.deref.ensures.value ∙ c.in_ok-universals.ensures)
-    c.in_ok-made.ensures)
+    (subst (λ (tb : List (Option ℕ)). IsNamed c.new.result c.in_ok-made.made tb c.deref.result.now) c.new-2.ensures c.in_ok-made.ensures))
