@@ -1,5 +1,6 @@
 -- The two files together.
 use Rattle.std.proofs.Common.{◌≡◌, ◌≢◌, ◌≤◌, inl, inr, ℕ, List, [], arith, refl, sym, ap, ◌∙◌, subst, length, take, append-nil, Option, Some, None, unwrap_or, IfSome}
+use Rattle.std.proofs.Math.Seq.{take-append_seam}
 use Rattle.std.specs.FinMap as map
 use Rattle.q_logic.specs.Prelude.{PrenexFormula, IsProper, size_of, measure_of}
 use Rattle.q_logic.proofs.Common.{Run-justified}
@@ -17,7 +18,6 @@ use Rattle.q_sched.specs.Drives.{IsSpentAt}
 use Rattle.q_simplify.specs.declared.report.Ending.{Ending}
 use Rattle.q_simplify.specs.declared.report.Ending.TheVariants as ending
 use Rattle.q_io.proofs.StoreContents.{at_some}
-use Rattle.q_simplify.proofs.LogFile.{take-front}
 use Rattle.q_simplify.proofs.Decided.{nothing-settled, small-nothing}
 use Rattle.q_simplify.proofs.StopReasons.{swept-numbered}
 
@@ -33,7 +33,7 @@ whole-front F G ln d h =
       last = h.run.last;
       valid = h.run.steps;
       part = length (steps_text h.steps);
-      bytes = ap (λ o. unwrap_or o []) h.bytes ∙ (sym (take-front (steps_text h.steps) []) ∙ ap (λ xs. take (length (steps_text h.steps)) xs) (append-nil (steps_text h.steps)));
+      bytes = ap (λ o. unwrap_or o []) h.bytes ∙ (sym (take-append_seam (steps_text h.steps) []) ∙ ap (λ xs. take (length (steps_text h.steps)) xs) (append-nil (steps_text h.steps)));
     }
 
 pub writes : (Is : PrenexFormula → Type 0) (F G : PrenexFormula) (on ln : List ℕ) (before : Disk) (mid after : Option Disk) → on ≢ ln → IsProper F → Is G → LeadsTo F G ln before mid → IfSome mid (λ disk. HoldsBytes on (formula_text G) disk after) → Writes Is F on ln before after
@@ -102,7 +102,7 @@ leaves-whole Is F on ln before after s =
         result = s.result;
         log = s.log;
         part = length (formula_text s.result);
-        bytes = ap (λ b. unwrap_or b []) s.output ∙ (sym (take-front (formula_text s.result) []) ∙ ap (λ xs. take (length (formula_text s.result)) xs) (append-nil (formula_text s.result)));
+        bytes = ap (λ b. unwrap_or b []) s.output ∙ (sym (take-append_seam (formula_text s.result) []) ∙ ap (λ xs. take (length (formula_text s.result)) xs) (append-nil (formula_text s.result)));
       });
       others = s.others;
     }
