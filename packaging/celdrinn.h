@@ -47,6 +47,13 @@ struct celdrinn_word {
 uint8_t celdrinn_run(const struct celdrinn_word *words, size_t words_count, size_t *lengths, size_t lengths_count, uint8_t *made,
                      size_t made_room, uint8_t *line, size_t line_room, size_t *line_len);
 
+/* The same under a list of moves, a text with a line for each as `eliminate 3` (docs/FORMATS.md, "Lists of moves"): `simplify` and `solve` try
+ * them first, in their order, and pass over what does not apply. 64 with nothing made also where a line is no move; `wrong_line` is then
+ * the number of the first such line, counted from 1, and else 0. No bytes: no moves, and then this is celdrinn_run. */
+uint8_t celdrinn_run_listed(const struct celdrinn_word *words, size_t words_count, const uint8_t *moves, size_t moves_len, size_t *lengths,
+                            size_t lengths_count, uint8_t *made, size_t made_room, uint8_t *line, size_t line_room, size_t *line_len,
+                            size_t *wrong_line);
+
 #ifdef __cplusplus
 }
 #endif

@@ -50,10 +50,12 @@ struct celdrinn_options {
     uint32_t binary;         /* disprove, annotate of PROOF, 1: what could be a text is read as a binary proof */
     uint64_t seed;           /* gen */
     uint32_t clauses;        /* gen: 1 to 100000 */
+    const char *moves;       /* simplify, solve: what is tried first, a line for each move, as `eliminate 3`; a copy is kept. NULL: none */
+    size_t moves_length;     /* bytes of `moves` */
 };
-#define CELDRINN_OPTIONS {sizeof(struct celdrinn_options), 0, 16, UINT64_MAX, 0, 0, 0, 0, 1, 1}
+#define CELDRINN_OPTIONS {sizeof(struct celdrinn_options), 0, 16, UINT64_MAX, 0, 0, 0, 0, 1, 1, NULL, 0}
 int celdrinn_set_options(celdrinn *, const struct celdrinn_options *); /* 64: one is out of range, or not known here */
-/* one of them by its name, but `part` and `parts` */
+/* one of them by its name, but `part`, `parts` and `moves` */
 int celdrinn_set(celdrinn *, const char *option, uint64_t value);
 
 /* --- limits; they hold for each call that works, from its start --- */
@@ -83,7 +85,8 @@ int celdrinn_text(celdrinn *, const void *qdimacs, size_t length);
  * A command reads those before the arrow, and makes those behind it; what it does not make is taken away. */
 int celdrinn_put(celdrinn *, const char *name, const void *bytes, size_t length); /* a copy; NULL takes the file away */
 const char *celdrinn_get(celdrinn *, const char *name, size_t *length);           /* NULL: no such file; a 0 stands behind the last byte */
-int celdrinn_do(celdrinn *, const char *command);                                 /* its exit status; 64 where a file is missing */
+/* its exit status; 64 where a file is missing, or a line of `moves` is none: the line is then `moves line N`, N counted from 1 */
+int celdrinn_do(celdrinn *, const char *command);
 
 /* --- the same by calls of their own --- */
 int celdrinn_do_simplify(celdrinn *); /* 2: the budget is spent, or a limit came first, and then the line begins with `stopped` */
@@ -108,7 +111,7 @@ const char *celdrinn_out_text(celdrinn *, size_t *length);
 const char *celdrinn_log_text(celdrinn *, size_t *length);
 const char *celdrinn_cert_text(celdrinn *, size_t *length);
 const char *celdrinn_line(celdrinn *); /* what the command would print, or why an argument was refused */
-int celdrinn_offence(celdrinn *, uint64_t *line, unsigned *cause); /* of a refusal, as numbers; 64: the last call was not refused so */
+int celdrinn_offence(celdrinn *, uint64_t *line, unsigned *cause); /* of a refusal, as numbers, a wrong line of moves has cause 0; 64: the last call was not refused so */
 
 struct celdrinn_costs {
     double seconds, longest_pause; /* of the last call; the longest time in which no limit could be noticed */

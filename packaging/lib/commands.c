@@ -10,21 +10,21 @@
 #include <sys/mman.h>
 
 /* the options of a command */
-enum { GROW = 1, EXPAND = 2, BUDGET = 4, PART = 8, FLAG_HERBRAND = 16, FLAG_BINARY = 32, SCALE = 64 };
+enum { GROW = 1, EXPAND = 2, BUDGET = 4, PART = 8, FLAG_HERBRAND = 16, FLAG_BINARY = 32, SCALE = 64, MOVES = 128 };
 
 static const struct command {
     const char *word;
     enum file_name reads[5], makes[4]; /* up to NO_FILE, in the order of the words */
     int takes;
 } commands[] = {
-    {"simplify", {IN}, {OUT, LOG}, GROW | EXPAND | BUDGET},
+    {"simplify", {IN}, {OUT, LOG}, GROW | EXPAND | BUDGET | MOVES},
     {"check", {IN, OUT, LOG}, {NO_FILE}, PART},
     {"rebuild", {IN, OUT, LOG, SKOLEM}, {CERT}, 0},
     {"refute", {IN, OUT, LOG, HERBRAND}, {CERT}, 0},
     {"annotate", {IN, OUT, LOG}, {HINTED}, PART},
     {"annotate", {IN, PROOF}, {HINTED}, FLAG_BINARY | PART},
     {"validate", {IN, CERT}, {NO_FILE}, BUDGET},
-    {"solve", {IN}, {OUT, LOG, CERT}, BUDGET},
+    {"solve", {IN}, {OUT, LOG, CERT}, BUDGET | MOVES},
     {"extract", {IN, TRACE}, {CERT}, 0},
     {"miter", {IN, CERT}, {MITER}, FLAG_HERBRAND},
     {"disprove", {IN, PROOF}, {NO_FILE}, FLAG_BINARY | PART},
@@ -39,6 +39,17 @@ static int are_right(const struct celdrinn_options *o) {
     return o->grow <= 10000 && o->expand <= 10000 && (o->parts == 0 || (o->part >= 1 && o->part <= o->parts)) && o->herbrand <= 1 &&
            o->binary <= 1 && o->clauses >= 1 && o->clauses <= 100000;
 }
+/* a copy of the moves stays; they may be that copy */
+static int keep_moves(celdrinn *c, struct celdrinn_options *o) {
+    if (o->moves == NULL) {
+        celdrinn_drop(&c->moves);
+        o->moves_length = 0;
+        return 1;
+    }
+    if (o->moves != c->moves.at && !celdrinn_keep(&c->moves, o->moves, o->moves_length)) return 0;
+    o->moves = c->moves.at;
+    return 1;
+}
 int celdrinn_set_options(celdrinn *c, const struct celdrinn_options *given) {
     struct celdrinn_options o = defaults;
     size_t known = given->size < sizeof o ? given->size : sizeof o;
@@ -48,6 +59,7 @@ int celdrinn_set_options(celdrinn *c, const struct celdrinn_options *given) {
     memcpy(&o, given, known);
     o.size = sizeof o;
     if (!are_right(&o)) return celdrinn_misuse(c, "an option is out of range");
+    if (!keep_moves(c, &o)) return CELDRINN_NO_MEMORY;
     c->options = o;
     return 0;
 }
@@ -77,6 +89,8 @@ struct job {
     enum file_name makes[MOST_WORDS]; /* by the words; NO_FILE: none */
     char options[4][LONGEST_OPTION];
     int options_count;
+    const uint8_t *moves; /* no pointer is null */
+    size_t moves_len, wrong_move; /* the number of a line, from 1; 0: none */
 };
 static struct celdrinn_word *add_word(struct job *j, const char *text) {
     struct celdrinn_word *w = &j->words[j->count];
@@ -111,7 +125,9 @@ static int are_there(const struct command *k, const celdrinn *c) {
     return 1;
 }
 static void fill(struct job *j, const struct command *k, const celdrinn *c) {
-    j->count = 0, j->options_count = 0;
+    int has_moves = k->takes & MOVES && c->options.moves != NULL;
+    j->count = 0, j->options_count = 0, j->wrong_move = 0;
+    j->moves = (const uint8_t *)(has_moves ? c->options.moves : ""), j->moves_len = has_moves ? c->options.moves_length : 0;
     add_word(j, k->word);
     if (k->takes & SCALE) add_number(j, "", c->options.seed), add_number(j, "", c->options.clauses);
     for (const enum file_name *name = k->reads; *name != NO_FILE; name++) {
@@ -179,6 +195,11 @@ static int take_line(celdrinn *c, const uint8_t *line, size_t size) {
     c->said = size != 0 ? NULL : "no memory"; /* the proved call has a line but for that */
     return celdrinn_keep(&c->line, line, size);
 }
+static int take_wrong_move(celdrinn *c, size_t number) {
+    char text[48];
+    int size = snprintf(text, sizeof text, "moves line %zu", number);
+    return take_line(c, (const uint8_t *)text, (size_t)size);
+}
 static size_t sum(const struct job *j) {
     size_t all = 0;
     for (size_t i = 0; i < j->count; i++) all += j->lengths[i];
@@ -192,11 +213,12 @@ static int call(celdrinn *c, struct job *j) {
         close_pages(&made), close_pages(&line);
         if (!open_pages(&made, made_len) || !open_pages(&line, line_len)) return close_pages(&made), CELDRINN_NO_MEMORY;
         begin(c);
-        status = celdrinn_run(j->words, j->count, j->lengths, j->count, made.at, made.room, line.at, line.room, &line_len);
+        status = celdrinn_run_listed(j->words, j->count, j->moves, j->moves_len, j->lengths, j->count, made.at, made.room, line.at,
+                                     line.room, &line_len, &j->wrong_move);
         end(c);
         made_len = sum(j);
     } while (made_len > made.room || line_len > line.room);
-    is_kept = take_files(c, j, made.at) && take_line(c, line.at, line_len);
+    is_kept = take_files(c, j, made.at) && (j->wrong_move ? take_wrong_move(c, j->wrong_move) : take_line(c, line.at, line_len));
     close_pages(&made), close_pages(&line);
     return is_kept ? status : CELDRINN_NO_MEMORY;
 }

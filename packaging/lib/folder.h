@@ -21,6 +21,7 @@ extern const char *const celdrinn_file_names[FILE_NAMES];
 struct celdrinn {
     struct celdrinn_limits limits;
     struct celdrinn_options options;
+    struct text moves; /* those of the options */
     double seconds;
     struct text files[FILE_NAMES];
     struct ints blocks, clauses; /* IN, where it is given by arrays */

@@ -35,7 +35,7 @@ void celdrinn_free(celdrinn *c) {
     if (c == NULL) return;
     free(c->blocks.at), free(c->clauses.at), free(c->out_blocks.at), free(c->out_clauses.at);
     for (int i = 0; i < FILE_NAMES; i++) celdrinn_drop(&c->files[i]);
-    celdrinn_drop(&c->line);
+    celdrinn_drop(&c->line), celdrinn_drop(&c->moves);
     free(c);
 }
 void celdrinn_limit_seconds(celdrinn *c, double s) { c->seconds = s; }
@@ -47,6 +47,8 @@ const char *celdrinn_line(celdrinn *c) { return c->said ? c->said : c->line.at ?
 int celdrinn_offence(celdrinn *c, uint64_t *line, unsigned *cause) {
     const char *at = strstr(celdrinn_line(c), "line ");
     unsigned long long place = 0;
+    *cause = 0;
+    if (sscanf(celdrinn_line(c), "moves line %llu", &place) == 1) return *line = place, 0;
     if (at == NULL || sscanf(at, "line %llu cause %u", &place, cause) != 2) return CELDRINN_USAGE;
     *line = place;
     return 0;

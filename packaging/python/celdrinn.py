@@ -270,6 +270,19 @@ def _program() -> _Program:
 
 # --- the library ---
 
+class _Options(ctypes.Structure):
+    """The options of celdrinn2.h, in its order."""
+
+    _fields_ = [("size", ctypes.c_size_t), ("grow", ctypes.c_uint32), ("expand", ctypes.c_uint32), ("budget", ctypes.c_uint64),
+                ("part", ctypes.c_uint32), ("parts", ctypes.c_uint32), ("herbrand", ctypes.c_uint32), ("binary", ctypes.c_uint32),
+                ("seed", ctypes.c_uint64), ("clauses", ctypes.c_uint32), ("moves", ctypes.c_char_p), ("moves_length", ctypes.c_size_t)]
+
+
+def _listing(moves: bytes) -> _Options:
+    """The options that are there if nothing is said, and moves."""
+    return _Options(ctypes.sizeof(_Options), 0, 16, 2 ** 64 - 1, 0, 0, 0, 0, 1, 1, moves, len(moves))
+
+
 class _Library:
     """The shared library of packaging/lib. A call of it runs in a thread of its own, so that its caller can be interrupted meanwhile."""
 
@@ -278,7 +291,7 @@ class _Library:
         handle, count, size, text = ctypes.c_void_p, ctypes.c_int, ctypes.c_size_t, ctypes.c_char_p
         for name, result, arguments in (
                 ("version", text, []), ("new", handle, []), ("free", None, [handle]), ("limit_seconds", None, [handle, ctypes.c_double]),
-                ("stop", None, [handle]), ("set", count, [handle, text, ctypes.c_uint64]), ("put", count, [handle, text, text, size]),
+                ("stop", None, [handle]), ("set_options", count, [handle, ctypes.POINTER(_Options)]), ("set", count, [handle, text, ctypes.c_uint64]), ("put", count, [handle, text, text, size]),
                 ("get", handle, [handle, text, ctypes.POINTER(size)]), ("do", count, [handle, text]), ("line", text, [handle])):
             call = getattr(self._lib, "celdrinn_" + name)
             call.restype, call.argtypes = result, arguments
@@ -286,12 +299,12 @@ class _Library:
     def version(self) -> str:
         return self._call("version").decode()
 
-    def run(self, verb: str, texts: Sequence[bytes], options: Mapping[str, int], seconds: Optional[float]) -> _Answer:
+    def run(self, verb: str, texts: Sequence[bytes], options: Mapping[str, int], seconds: Optional[float], moves: bytes = b"") -> _Answer:
         handle = self._call("new")
         if not handle:
             return _Answer(6, "no memory", {})
         try:
-            status = self._prepare(handle, verb, texts, options, seconds)
+            status = self._prepare(handle, verb, texts, options, seconds, moves)
             if status == 0:
                 status = self._work(handle, verb)
             line = self._call("line", handle).decode()
@@ -308,11 +321,14 @@ class _Library:
         at = self._call("get", handle, name.encode(), ctypes.byref(length))
         return ctypes.string_at(at, length.value) if at else None
 
-    def _prepare(self, handle: int, verb: str, texts: Sequence[bytes], options: Mapping[str, int], seconds: Optional[float]) -> int:
+    def _prepare(self, handle: int, verb: str, texts: Sequence[bytes], options: Mapping[str, int], seconds: Optional[float],
+                 moves: bytes) -> int:
         self._call("limit_seconds", handle, seconds or 0.0)
         status = 0
         for name, text in zip(_TAKES[verb], texts):
             status = status or self._call("put", handle, name.encode(), text, len(text))
+        if moves:
+            status = status or self._call("set_options", handle, ctypes.byref(_listing(moves)))
         for option, value in options.items():
             status = status or self._call("set", handle, option.encode(), int(value))
         return status
@@ -375,15 +391,33 @@ def version() -> str:
 _RANGES = {"grow": (0, 10000), "expand": (0, 10000), "budget": (0, 2 ** 64 - 1), "seed": (0, 2 ** 64 - 1), "clauses": (1, 100000)}
 
 
-def _run(verb: str, texts: Sequence[bytes], seconds: Optional[float], **options: Optional[int]) -> _Answer:
+def _in_range(options: Mapping[str, Optional[int]]) -> Dict[str, int]:
+    """Those that are said."""
     chosen = {name: value for name, value in options.items() if value is not None}
     for name, value in chosen.items():
         least, most = _RANGES.get(name, (0, 1))
         if not least <= value <= most:
             raise FormulaError(f"{name}={value} is out of range", 64)
+    return chosen
+
+
+def _run(verb: str, texts: Sequence[bytes], seconds: Optional[float], moves: bytes = b"", **options: Optional[int]) -> _Answer:
+    chosen = _in_range(options)
+    if moves:
+        return _run_listed(verb, texts, seconds, moves, chosen)
     # the library has no alarm, by which a plain run ends
     player = _program() if chosen.get("plain") else _library() or _program()
     return player.run(verb, texts, chosen, seconds)
+
+
+def _run_listed(verb: str, texts: Sequence[bytes], seconds: Optional[float], moves: bytes, options: Mapping[str, int]) -> _Answer:
+    """The same under a list of moves, which the library alone takes."""
+    if options.get("plain"):
+        raise FormulaError("a plain run takes no list of moves", 64)
+    library = _library()
+    if library is None:
+        raise NotFound("a list of moves wants the library libceldrinn.so.1, and it is not found", 127)
+    return library.run(verb, texts, options, seconds, moves)
 
 
 def _source(clauses: Union[Clauses, bytes], prefix: Prefix) -> bytes:
@@ -448,13 +482,16 @@ class Simplified:
 
 
 def simplify(clauses: Union[Clauses, bytes], prefix: Prefix = (), *, grow: Optional[int] = None, expand: Optional[int] = None,
-             budget: Optional[int] = None, plain: Optional[bool] = None, seconds: Optional[float] = None) -> Simplified:
+             budget: Optional[int] = None, plain: Optional[bool] = None, seconds: Optional[float] = None,
+             moves: Union[bytes, Iterable[str]] = ()) -> Simplified:
     """Takes rules as long as one applies.
 
     clauses: lists of ints, or a QDIMACS text as bytes. grow, expand, budget, plain: as the program's options. seconds: where this limit comes
-    first, Stopped is raised; with the library its `result` has what was done until then."""
+    first, Stopped is raised; with the library its `result` has what was done until then. moves: what is tried first, each as "eliminate 3"
+    (docs/FORMATS.md, "Lists of moves"), by the library alone; FormulaError where one is none, whose `line` is its number from 1."""
     source = _source(clauses, prefix)
-    answer = _run("simplify", [source], seconds, grow=grow, expand=expand, budget=budget, plain=plain)
+    listed = bytes(moves) if isinstance(moves, (bytes, bytearray)) else "\n".join(moves).encode()
+    answer = _run("simplify", [source], seconds, listed, grow=grow, expand=expand, budget=budget, plain=plain)
     is_stopped = answer.line.startswith("stopped:")
     if not is_stopped or answer.status != 2:
         answer.wanted(0, 2, 10, 20)

@@ -214,6 +214,37 @@ static void play_options(void) {
     PASS();
 }
 
+/* one clause of two goes, and the list says which */
+#define EITHER "p cnf 2 2\ne 1 2 0\n1 0\n2 0\n"
+static int list(celdrinn *c, const char *moves) {
+    struct celdrinn_options o = CELDRINN_OPTIONS;
+    o.budget = 1, o.moves = moves, o.moves_length = moves ? strlen(moves) : 0;
+    return celdrinn_set_options(c, &o);
+}
+static int leads_to(celdrinn *c, const char *moves, const char *out) {
+    if (list(c, moves) != 0 || celdrinn_do(c, "simplify") != CELDRINN_STOPPED || strcmp(celdrinn_line(c), "spent 6 3") != 0) return 0;
+    return holds_text(c, "OUT", out) && celdrinn_do(c, "check") == 0;
+}
+static void play_moves(void) {
+    row = "moves: the first that applies goes first, and a wrong line is told";
+    uint64_t line;
+    unsigned cause;
+    char short_lived[] = "eliminate 2";
+    celdrinn *c = with(EITHER);
+    WANT(c != NULL && leads_to(c, "eliminate 1\n", "p cnf 2 1\ne 2 0\n2 0\n") && leads_to(c, "eliminate 2\n", "p cnf 1 1\ne 1 0\n1 0\n"));
+    WANT(leads_to(c, "eliminate 7\n\neliminate 2", "p cnf 1 1\ne 1 0\n1 0\n") && leads_to(c, "eliminate 1\neliminate 2\n", "p cnf 2 1\ne 2 0\n2 0\n"));
+    WANT(list(c, short_lived) == 0);
+    memset(short_lived, 'x', sizeof short_lived); /* a copy was kept, also where another option is set */
+    WANT(celdrinn_set(c, "grow", 1) == 0 && celdrinn_do(c, "simplify") == CELDRINN_STOPPED && holds_text(c, "OUT", "p cnf 1 1\ne 1 0\n1 0\n"));
+    WANT(list(c, "eliminate 1\n\nunit 1x\ncut 0\n") == 0 && celdrinn_do(c, "simplify") == CELDRINN_USAGE);
+    WANT(strcmp(celdrinn_line(c), "moves line 3") == 0 && celdrinn_offence(c, &line, &cause) == 0 && line == 3 && cause == 0);
+    WANT(!is_there(c, "OUT") && !is_there(c, "LOG") && celdrinn_do(c, "solve") == CELDRINN_USAGE && says(c, "moves line 3"));
+    WANT(put(c, "OUT", EITHER) == 0 && put(c, "LOG", "") == 0 && celdrinn_do(c, "check") == 0); /* it takes no moves */
+    WANT(list(c, NULL) == 0 && celdrinn_do(c, "simplify") == CELDRINN_STOPPED);
+    celdrinn_free(c);
+    PASS();
+}
+
 /* the proved call by itself */
 static struct celdrinn_word word(const char *text) {
     struct celdrinn_word w = {(const uint8_t *)text, strlen(text), (const uint8_t *)"", 0, 0};
@@ -241,6 +272,21 @@ static void play_proved(void) {
     WANT(celdrinn_run(words, 6, lengths, 6, made, size, line, sizeof line, &line_len) == CELDRINN_USAGE && line_len == 0);
     words[5] = word("C");
     WANT(celdrinn_run(words, 6, lengths, 5, made, size, line, sizeof line, &line_len) == CELDRINN_USAGE && line_len == 0 && lengths[4] == 0);
+    PASS();
+}
+static void play_proved_moves(void) {
+    row = "the proved call under a list of moves: the number of the first line that is none";
+    struct celdrinn_word words[] = {word("simplify"), given("I", EITHER), word("O"), word("L"), word("--budget=1")};
+    size_t lengths[5], line_len, wrong_line = 7;
+    uint8_t made[64], line[64];
+    const char *moves = "eliminate 2", *out = "p cnf 1 1\ne 1 0\n1 0\n";
+    WANT(celdrinn_run_listed(words, 5, (const uint8_t *)moves, strlen(moves), lengths, 5, made, sizeof made, line, sizeof line, &line_len, &wrong_line) == 2);
+    WANT(wrong_line == 0 && line_len == 10 && memcmp(line, "spent 6 3\n", 10) == 0 && lengths[2] == strlen(out) && memcmp(made, out, lengths[2]) == 0);
+    moves = "\neliminate  2\nx\n"; /* with two spaces */
+    WANT(celdrinn_run_listed(words, 5, (const uint8_t *)moves, strlen(moves), lengths, 5, made, sizeof made, line, sizeof line, &line_len, &wrong_line) == CELDRINN_USAGE);
+    WANT(wrong_line == 2 && line_len == 0 && lengths[2] == 0 && lengths[3] == 0 && memcmp(made, out, strlen(out)) == 0);
+    WANT(celdrinn_run_listed(words, 5, (const uint8_t *)moves, 0, lengths, 4, made, sizeof made, line, sizeof line, &line_len, &wrong_line) == CELDRINN_USAGE);
+    WANT(wrong_line == 0 && line_len == 0);
     PASS();
 }
 
@@ -297,7 +343,9 @@ void play_commands(void) {
     play_refute();
     play_generate();
     play_options();
+    play_moves();
     play_proved();
+    play_proved_moves();
     play_limits();
     play_together();
 }
@@ -308,8 +356,10 @@ static int step(celdrinn *c, const char *command, int wanted) {
     return status == wanted ? 0 : status;
 }
 static int on_true(celdrinn *c) {
+    struct celdrinn_options o = CELDRINN_OPTIONS;
     int status = put(c, "SKOLEM", NOTHING);
-    if (!status) status = celdrinn_set(c, "grow", 8);
+    o.grow = 8, o.moves = "eliminate 2\n", o.moves_length = strlen(o.moves);
+    if (!status) status = celdrinn_set_options(c, &o);
     if (!status) status = step(c, "simplify", CELDRINN_TRUE);
     if (!status) status = step(c, "check", 0);
     if (!status) status = step(c, "apply", 0);

@@ -167,6 +167,28 @@ def play_commands():
     assert celdrinn.generate(3, 25) == by_program(celdrinn.generate, 3, 25), "library and program"
 
 
+def play_moves():
+    """By hand: one clause of two goes, and the list says which. The library alone takes one."""
+    either = b"p cnf 2 2\ne 1 2 0\n1 0\n2 0\n"
+    if os.environ.get("CELDRINN_LIBRARY"):
+        for moves, left in ((["eliminate 1"], [[2]]), (b"eliminate 2\n", [[1]]), (["eliminate 7", "eliminate 2"], [[1]])):
+            r = celdrinn.simplify(either, budget=1, moves=moves)
+            assert (r.line, r.clauses) == ("spent 6 3", left) and r.check() >= 1, moves
+        for wrong, place in ((["eliminate 1", "cut 0"], 2), (b"x", 1)):
+            try:
+                celdrinn.simplify(either, moves=wrong)
+            except celdrinn.FormulaError as error:
+                assert (error.status, error.line, error.cause) == (64, place, None), error
+            else:
+                raise AssertionError("a wrong line of moves")
+    for wrong, options in ((celdrinn.NotFound, {}), (celdrinn.FormulaError, {"plain": True})):
+        try:
+            by_program(celdrinn.simplify, either, moves=["eliminate 1"], **options)
+        except wrong:
+            continue
+        raise AssertionError("moves without the library, or in a plain run")
+
+
 def play_texts():
     text = b"c a lamp\np cnf 2 2\na 1 0\ne 2 0\n1\n2 0 -1 -2 0\n"
     assert celdrinn.read(text) == ([[1, 2], [-1, -2]], [("a", [1]), ("e", [2])])
@@ -225,7 +247,7 @@ def main():
     count = int(sys.argv[1]) if len(sys.argv) > 1 else 150
     is_right = True
     for name, play in ((f"{count} formulas in Python", lambda: play_formulas(count)), ("commands in Python", play_commands), ("errors in Python", play_errors),
-                       ("texts in Python", play_texts), ("a limit in Python", play_limits), ("Ctrl-C in Python", play_interrupt),
+                       ("moves in Python", play_moves), ("texts in Python", play_texts), ("a limit in Python", play_limits), ("Ctrl-C in Python", play_interrupt),
                        ("threads in Python", play_threads)):
         try:
             play()

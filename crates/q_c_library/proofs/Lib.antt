@@ -1,2 +1,3 @@
 mod CommandFiles
 mod JobWords
+mod MoveLists

@@ -1,10 +1,11 @@
-//! A job is run: its words are those of the command, over the files that they give.
+//! A job is run: its words are those of the command, over the files that they give, under a list of moves.
 ghost use Rattle.std.specs.Prelude.{◌≡◌, All, IsUtf8, map, string_bytes, IfOk, IsErrOf, OnOk};
 ghost use Rattle.q_c_library.specs.Calls.{RanOver};
 ghost use Rattle.q_c_library.specs.Jobs.{HoldsGiven, texts_of};
 
 use crate::job::{Job, NoJob, Word, job_of};
-use crate::running::{Left, command};
+use crate::running::{Left, command_listed};
+use q_guides::Listed;
 use std::alloc::Global;
 
 // What a job left, and its words.
@@ -14,7 +15,7 @@ pub(crate) struct Finished {
     pub left: Left,
 }
 
-pub(crate) fn run_job(alloc: Global, words: &[Word]) -> Result<Finished, NoJob>
+pub(crate) fn run_job(alloc: Global, words: &[Word], listed: Listed) -> Result<Finished, NoJob>
     ensures words { IfOk result (λ done.
         map (λ w. string_bytes w) done.words.items ≡ texts_of words.now) }
     ensures ran { IfOk result (λ done. RanOver (texts_of words.now) (λ disk.
@@ -29,7 +30,7 @@ pub(crate) fn run_job(alloc: Global, words: &[Word]) -> Result<Finished, NoJob>
         Ok(job) => job,
         Err(error) => return Err(error),
     };
-    match command(alloc, &texts, files) {
+    match command_listed(alloc, &texts, files, listed) {
         Ok(left) => Ok(Finished { words: texts, left }),
         Err(_) => Err(NoJob::NoMemory),
     }

@@ -11,7 +11,7 @@ mod running;
 ghost use Rattle.std.specs.Prelude.{◌≡◌, ◌∷◌, [], codes, length, replicate};
 ghost use Rattle.q_io.specs.Files.{bytes_at};
 ghost use Rattle.q_c_library.specs.Calls.{Called, Copied, HoldsFour, HoldsOne, HoldsThree, no_lengths, over_three};
-ghost use Rattle.q_c_library.specs.Jobs.{JobCalled, lengths_of, made_of};
+ghost use Rattle.q_c_library.specs.Jobs.{JobCalled, JobTold, ListedCalled, NothingTold};
 
 use copying::{put, put_file};
 use job::NoJob;
@@ -19,6 +19,7 @@ pub use job::Word;
 use job_run::run_job;
 use made::{put_made, tell_lengths};
 use q_app::Status;
+use q_guides::{Listed, NoMoves};
 use running::{Left, check, rebuild, simplify};
 use std::alloc::Global;
 
@@ -135,19 +136,89 @@ pub extern "C" fn celdrinn_run(
     line: &mut [u8],
     line_length: &mut usize,
 ) -> u8
-    ensures { JobCalled words.now lengths.old result (λ disk text.
-        Copied text line.old line.new line_length.new
-        × Copied (made_of words.now disk) made.old made.new (length (made_of words.now disk))
-        × (lengths.new ≡ lengths_of words.now disk))
-        ((lengths.new ≡ replicate (length lengths.old) 0) × (line_length.new ≡ 0)
-        × (made.new ≡ made.old) × (line.new ≡ line.old)) }
+    ensures { JobCalled words.now lengths.old result (JobTold words.now line.old line.new line_length.new made.old
+        made.new lengths.new)
+        (NothingTold line.old line.new line_length.new made.old made.new lengths.old
+        lengths.new) }
+{
+    let mut wrong_line = 0;
+    celdrinn_run_listed(
+        alloc,
+        words,
+        &[],
+        lengths,
+        made,
+        line,
+        line_length,
+        &mut wrong_line,
+    )
+}
+
+/// The same under a list of moves, a line for each: `simplify` tries them first, in their order, and passes over what does not
+/// apply. It answers 64 with nothing made also where a line is no move; `wrong_line` is then the number of the first such line,
+/// counted from 1, and else 0.
+#[unsafe(no_mangle)]
+pub extern "C" fn celdrinn_run_listed(
+    alloc: Global,
+    words: &[Word],
+    moves: &[u8],
+    lengths: &mut [usize],
+    made: &mut [u8],
+    line: &mut [u8],
+    line_length: &mut usize,
+    wrong_line: &mut usize,
+) -> u8
+    ensures { ListedCalled moves.now wrong_line.new result
+        (JobCalled words.now lengths.old result (JobTold words.now line.old line.new line_length.new made.old
+        made.new lengths.new)
+        (NothingTold line.old line.new line_length.new made.old made.new lengths.old
+        lengths.new))
+        (NothingTold line.old line.new line_length.new made.old made.new lengths.old
+        lengths.new) }
+{
+    *wrong_line = 0;
+    match Listed::read(alloc, moves) {
+        Ok(listed) => call_job(alloc, words, listed, lengths, made, line, line_length),
+        Err(NoMoves::Line(number)) => {
+            tell_nothing(lengths, line_length);
+            *wrong_line = number;
+            Status::Usage.code()
+        }
+        Err(NoMoves::NoMemory) => {
+            tell_nothing(lengths, line_length);
+            Status::NoMemory.code()
+        }
+    }
+}
+
+fn tell_nothing(lengths: &mut [usize], line_length: &mut usize)
+    ensures lengths { lengths.new ≡ replicate (length lengths.old) 0 }
+    ensures line_length { line_length.new ≡ 0 }
 {
     lengths.fill(0);
     *line_length = 0;
+}
+
+// A job under a list of moves. What it made is told, where it was done.
+fn call_job(
+    alloc: Global,
+    words: &[Word],
+    listed: Listed,
+    lengths: &mut [usize],
+    made: &mut [u8],
+    line: &mut [u8],
+    line_length: &mut usize,
+) -> u8
+    ensures { JobCalled words.now lengths.old result (JobTold words.now line.old line.new line_length.new made.old
+        made.new lengths.new)
+        (NothingTold line.old line.new line_length.new made.old made.new lengths.old
+        lengths.new) }
+{
+    tell_nothing(lengths, line_length);
     if lengths.len() != words.len() {
         return Status::Usage.code();
     }
-    match run_job(alloc, words) {
+    match run_job(alloc, words, listed) {
         Ok(done) => {
             tell_lengths(words, &done.left.files, &done.words, lengths);
             put_made(words, &done.left.files, &done.words, made);

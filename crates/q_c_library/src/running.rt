@@ -1,10 +1,12 @@
 //! One command over files in memory.
 ghost use Rattle.std.specs.Prelude.{◌≡◌, ◌++◌, ◌∷◌, [], List, ℕ, None, map, string_bytes, codes, IfOk, OnOk};
 ghost use Rattle.std.specs.FinMap as store;
-ghost use Rattle.q_c_library.specs.Calls.{Ran, RanOver, HoldsFour, HoldsOne, HoldsThree, over_three};
+ghost use Rattle.q_app.specs.Commands.{request};
+ghost use Rattle.q_app.specs.Says.{Does};
+ghost use Rattle.q_c_library.specs.Calls.{Ran, RanOver, HoldsFour, HoldsOne, HoldsThree, memory, over_three};
 
 use q_app::{Status, bounds_of, run_whole};
-use q_guides::{Impatient, Quiet, Touched};
+use q_guides::{Impatient, Listed, Quiet, Touched};
 use q_io::{SteadyFiles, SteadySink};
 use q_logic::NoMemory;
 use q_sched::{FewestFirst, Guide, ShortestFirst};
@@ -97,26 +99,57 @@ fn rebuild_words(alloc: Global) -> Result<Vec<String>, NoMemory>
     Ok(words)
 }
 
-// Runs it. The guides are those of the program.
-pub(crate) fn command(alloc: Global, words: &[String], files: SteadyFiles) -> Result<Left, NoMemory>
-    ensures { IfOk result (λ left.
-        Ran (map (λ w. string_bytes w) words.now) files left.status left.files left.line) }
+// Runs it over files and a sink. A list of moves is asked first, and then the guides of the program.
+fn run_guided(
+    alloc: Global,
+    words: &[String],
+    listed: Listed,
+    files: &mut SteadyFiles,
+    line: &mut SteadySink,
+) -> Result<Status, NoMemory>
+    ensures { IfOk result (λ status. Does (request (map (λ w. string_bytes w) words.now))
+        (memory files.old line.old) status (memory files.new line.new)) }
 {
-    let mut files = files;
-    let mut line = SteadySink::new(alloc);
-    let touched = Touched::new(alloc, bounds_of(words), Quiet);
     let mut guides: Vec<Box<dyn Guide>> = Vec::new(alloc);
+    guides.push(Box::new(alloc, listed)?)?;
+    let touched = Touched::new(alloc, bounds_of(words), Quiet);
     guides.push(Box::new(alloc, touched)?)?;
     let fewest = Impatient::new(FewestFirst::new());
     guides.push(Box::new(alloc, fewest)?)?;
     let shortest = Impatient::new(ShortestFirst::new());
     guides.push(Box::new(alloc, shortest)?)?;
-    let status = run_whole(alloc, words, &mut files, &mut line, guides);
+    Ok(run_whole(alloc, words, files, line, guides))
+}
+
+// Runs it under a list of moves.
+pub(crate) fn command_listed(
+    alloc: Global,
+    words: &[String],
+    files: SteadyFiles,
+    listed: Listed,
+) -> Result<Left, NoMemory>
+    ensures { IfOk result (λ left.
+        Ran (map (λ w. string_bytes w) words.now) files left.status left.files left.line) }
+{
+    let mut files = files;
+    let mut line = SteadySink::new(alloc);
+    let status = run_guided(alloc, words, listed, &mut files, &mut line)?;
     Ok(Left {
         status,
         files,
         line,
     })
+}
+
+// Runs it with no moves listed.
+fn command(alloc: Global, words: &[String], files: SteadyFiles) -> Result<Left, NoMemory>
+    ensures { IfOk result (λ left.
+        Ran (map (λ w. string_bytes w) words.now) files left.status left.files left.line) }
+{
+    match Listed::read(alloc, &[]) {
+        Ok(listed) => command_listed(alloc, words, files, listed),
+        Err(_) => Err(NoMemory),
+    }
 }
 
 pub(crate) fn check(

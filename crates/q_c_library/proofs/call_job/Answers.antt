@@ -2,7 +2,7 @@ use Rattle.std.proofs.Common.{◌≡◌, ◌∙◌, ℕ, List, length, arith, in
 use Rattle.std.proofs.lemmas.Grind.{common_steps}
 use Rattle.q_c_library.specs.Calls.{Copied}
 use Rattle.q_c_library.proofs.JobWords.{lengths-texts, made-texts}
-use Rattle.q_c_library.proofs.celdrinn_run.Goals as goal
+use Rattle.q_c_library.proofs.call_job.Goals as goal
 
 pub returns-in-Ok : goal.returns-in-Ok
 returns-in-Ok c =
