@@ -14,7 +14,8 @@ use Rattle.q_run_disprove.proofs.DisproveStatus as disprove
 use Rattle.q_run_disprove.proofs.SharedStatus as disproved_part
 use Rattle.q_run_disprove.proofs.CertifyStatus as certify
 use Rattle.q_run_apply.proofs.ApplyStatus as apply
-use Rattle.q_app.specs.Words.{applying, certifying}
+use Rattle.q_run_show.proofs.ShowStatus as show
+use Rattle.q_app.specs.Words.{applying, certifying, showing}
 use Rattle.q_app.specs.Completeness.{EachCompletes}
 use Rattle.q_app.specs.Told.{told}
 use Rattle.q_app.specs.Words.{Command, checking, sharing, simplifying, rebuilding, generating, solving, annotating, annotating_part, refuting, validating, mitering, extracting, disproving, disproving_part}
@@ -31,6 +32,7 @@ laws (generating k name) = generate.laws k name
 laws (solving n b) = solve.laws n b
 laws (annotating n) = annotate.laws n
 laws (annotating_part n p) = annotated_part.laws n p
+laws (showing n b p) = show.laws n b p
 laws (refuting n) = refute.laws n
 laws (validating n b) = validate.laws n b
 laws (mitering n s) = miter.laws n s

@@ -5,10 +5,11 @@ use Rattle.q_logic.specs.declared.rule_bounds.Bounds.{Bounds}
 use Rattle.q_command.specs.Names.{ThreeNames, three, three_of}
 use Rattle.q_app.specs.Rebuilds.{FiveNames, five}
 use Rattle.q_app.specs.Words.{Command, checking, sharing, simplifying, rebuilding, generating, solving, annotating, annotating_part, refuting, validating, mitering, extracting, Request, simplify_of, rebuild_of, generate_of, validate_of, refute_of, solve_of, miter_of, extract_of, demo, demo_of, nothing_set, options_of, with_words, disproving, disproving_part}
-use Rattle.q_app.specs.Words.{applying, apply_of, certifying}
+use Rattle.q_app.specs.Words.{applying, apply_of, certifying, showing}
 use Rattle.q_app.specs.Operands.{Differ, DifferFour, fourth, just_three, three_names, two_names}
 use Rattle.q_app.specs.RebuildWords.{rebuild_names}
-use Rattle.q_app.specs.PartWords.{annotate_of, check_of}
+use Rattle.q_app.specs.PartWords.{check_of}
+use Rattle.q_app.specs.AnnotateWords.{annotation_of}
 use Rattle.q_app.specs.DisproveWords.{disproof_of}
 use Rattle.q_run_validate.specs.Validates.{files_of as validate_files_of}
 use Rattle.q_run_refute.specs.Refutes.{files_of as refute_files_of}
@@ -19,10 +20,11 @@ use Rattle.q_run_extract.specs.Extracts.{files_of as extract_files_of}
 use Rattle.q_run_disprove.specs.Disproofs.{files_of as disprove_files_of}
 use Rattle.q_run_disprove.specs.Certifying.{files_of as certify_files_of}
 use Rattle.q_run_apply.specs.Applications.{files_of as apply_files_of}
+use Rattle.q_run_show.specs.Shows.{files_of as show_files_of}
 use Rattle.q_app.specs.declared.settings.Settings.{Settings}
 use Rattle.q_app.specs.declared.rebuild_words.RebuildNames.{RebuildNames}
 use Rattle.q_app.specs.declared.words.Command.{Command as Parsed}
-use Rattle.q_app.specs.declared.words.Command.TheVariants.{Apply, Certify}
+use Rattle.q_app.specs.declared.words.Command.TheVariants.{Apply, Certify, Show}
 use Rattle.q_app.specs.declared.words.Command.TheVariants.{Check, Share, Simplify, Rebuild, Generate, Solve, Annotate, AnnotateShare, Refute, Validate, Miter, Extract, Demo, Disprove, DisproveShare}
 
 -- by the verb and its operands; all else is no command
@@ -34,7 +36,7 @@ by_verb verb operands =
     (cond (bytes_eq verb (codes "gen")) (generate_of operands)
     (cond (bytes_eq verb (codes "validate")) (validate_of (two_names operands))
     (cond (bytes_eq verb (codes "refute")) (refute_of (rebuild_names operands))
-    (cond (bytes_eq verb (codes "annotate")) (annotate_of (fourth (three_names operands)))
+    (cond (bytes_eq verb (codes "annotate")) (annotation_of operands)
     (cond (bytes_eq verb (codes "solve")) (solve_of (fourth (three_names operands)))
     (cond (bytes_eq verb (codes "extract")) (extract_of (just_three (three_names operands)))
     (cond (bytes_eq verb (codes "miter")) (miter_of (three_names operands))
@@ -60,6 +62,7 @@ commands_of (Validate n b) = validating (validate_files_of n) b ∷ []
 commands_of (Refute n) = refuting (refute_files_of n) ∷ []
 commands_of (Annotate n) = annotating (annotate_files_of n) ∷ []
 commands_of (AnnotateShare n p) = annotating_part (annotate_files_of n) p ∷ []
+commands_of (Show n b p) = showing (show_files_of n) b p ∷ []
 commands_of (Solve n b) = solving (solve_files_of n) b ∷ []
 commands_of (Extract n) = extracting (extract_files_of n) ∷ []
 commands_of (Miter n s) = mitering (miter_files_of n) s ∷ []

@@ -4,6 +4,7 @@ pub mod Operands
 pub mod Words
 pub mod PartWords
 pub mod DisproveWords
+pub mod AnnotateWords
 pub mod Refusals
 pub mod Simplifying
 pub mod RebuiltLines

@@ -17,7 +17,8 @@ use Rattle.q_run_disprove.specs.HintedDisproofs as disprove
 use Rattle.q_run_disprove.specs.SharedDisproofs as disproved_part
 use Rattle.q_run_disprove.specs.Certifying as certify
 use Rattle.q_run_apply.specs.Applications as apply
-use Rattle.q_app.specs.Words.{applying, certifying}
+use Rattle.q_run_show.specs.Shows as show
+use Rattle.q_app.specs.Words.{applying, certifying, showing}
 
 abbrev pub told : Command → Told
 told (checking n) = check.told n
@@ -28,6 +29,7 @@ told (generating k name) = generate.told k name
 told (solving n b) = solve.told n b
 told (annotating n) = annotate.told n
 told (annotating_part n p) = annotated_part.told n p
+told (showing n b p) = show.told n b p
 told (refuting n) = refute.told n
 told (validating n b) = validate.told n b
 told (mitering n s) = miter.told n s

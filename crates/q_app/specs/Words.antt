@@ -20,6 +20,7 @@ use Rattle.q_run_extract.specs.Extracts.{ExtractFiles}
 use Rattle.q_run_disprove.specs.Disproofs.{DisproveFiles}
 use Rattle.q_run_disprove.specs.Certifying.{CertifyFiles}
 use Rattle.q_run_apply.specs.Applications.{ApplyFiles}
+use Rattle.q_run_show.specs.Shows.{ShowFiles}
 use Rattle.q_app.specs.declared.words.Scale.{Scale}
 use Rattle.q_app.specs.declared.settings.Setting.{Setting}
 use Rattle.q_app.specs.declared.settings.Setting.TheVariants as setting
@@ -35,6 +36,7 @@ pub data Command : Type 0 where
   solving : SolveFiles → Option ℕ → Command
   annotating : AnnotateFiles → Command
   annotating_part : AnnotateFiles → Part → Command
+  showing : ShowFiles → Bool → Part → Command
   refuting : RefuteFiles → Command
   validating : ValidateFiles → Option ℕ → Command
   mitering : MiterFiles → Side → Command

@@ -32,6 +32,7 @@ use q_run_disprove::{
 use q_run_extract::run as run_extract;
 use q_run_miter::run as run_miter;
 use q_run_refute::run as run_refute;
+use q_run_show::run as run_show;
 use q_run_solve::run as run_solve;
 use q_run_validate::run as run_validate;
 use q_sched::Guide;
@@ -213,6 +214,11 @@ fn run_command<F: Files, S: Sink, A: Alarm>(
         Command::AnnotateShare { names, part } => {
             run_annotate_part(alloc, files, out, names, part)
         }
+        Command::Show {
+            names,
+            binary,
+            part,
+        } => run_show(alloc, files, out, names, binary, part),
         Command::Solve { names, budget } => { run_solve(alloc, files, out, names, budget, guides) }
         Command::Extract { names } => run_extract(alloc, files, out, names),
         Command::Miter { names, side } => run_miter(alloc, files, out, names, side),

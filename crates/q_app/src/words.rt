@@ -2,6 +2,7 @@
 ghost use Rattle.std.specs.Prelude.{◌≡◌, ◌≢◌, ◌≤◌, option_map, IfSome, Some};
 ghost use Rattle.q_app.specs.RebuildWords.{rebuild_names};
 ghost use Rattle.q_app.specs.PartWords.{annotate_of, check_of};
+ghost use Rattle.q_app.specs.AnnotateWords.{annotation_of, part_or_all as spec_part_or_all, show_of};
 ghost use Rattle.q_app.specs.DisproveWords.{certify_of, disproof_of, disprove_of, disprove_shared};
 ghost use Rattle.q_app.specs.Words.{apply_of};
 ghost use Rattle.q_app.specs.Words.{demo_by, demo_of, extract_of, generate_of, miter_of, refute_of, scale_of as spec_scale_of, side_of as spec_side_of, simplify_of, solve_of, validate_of};
@@ -22,6 +23,7 @@ use q_run_disprove::{CertifyNames, DisproveNames};
 use q_run_extract::ExtractNames;
 use q_run_miter::{MiterNames, Side};
 use q_run_refute::RefuteNames;
+use q_run_show::ShowNames;
 use q_run_solve::SolveNames;
 use q_run_validate::ValidateNames;
 use q_simplify::Options;
@@ -66,6 +68,11 @@ pub(crate) enum Command<'a> {
     },
     AnnotateShare {
         names: AnnotateNames<'a>,
+        part: Part,
+    },
+    Show {
+        names: ShowNames<'a>,
+        binary: bool,
         part: Part,
     },
     Solve {
@@ -233,6 +240,56 @@ fn parse_refute(operands: &[String]) -> Option<Command>
 }
 
 fn parse_annotate(operands: &[String]) -> Option<Command>
+    ensures request { option_map (λ o. commands_of o) result ≡ annotation_of (texts operands.now) }
+    ensures fit { IfSome result IsFit }
+{
+    match parse_show(operands) {
+        Some(command) => Some(command),
+        None => parse_four(operands),
+    }
+}
+
+fn part_or_all(part: Option<Part>) -> Part
+    ensures { result ≡ spec_part_or_all part }
+{
+    match part {
+        Some(part) => part,
+        None => Part {
+            index: 0,
+            others: 0,
+        },
+    }
+}
+
+// `annotate IN PROOF HINTED`, as a whole or a part.
+fn parse_show(operands: &[String]) -> Option<Command>
+    ensures request { option_map (λ o. commands_of o) result
+        ≡ show_of (spec_three_names (texts operands.now)) }
+    ensures fit { IfSome result IsFit }
+{
+    let Some(begun) = three_names(operands) else {
+        return None;
+    };
+    if !are_names(begun.names) {
+        return None;
+    }
+    let names = ShowNames {
+        input: begun.names.input,
+        proof: begun.names.output,
+        hinted: begun.names.log,
+    };
+    match options_of(begun.rest) {
+        Some(options) => Some(Command::Show {
+            names,
+            binary: options.binary,
+            part: part_or_all(options.part),
+        }),
+        None => None,
+    }
+}
+
+// `annotate IN OUT LOG HINTED`, as a whole or a part.
+fn parse_four(operands: &[String]) -> Option<Command>
     ensures request { option_map (λ o. commands_of o) result
         ≡ annotate_of (fourth (spec_three_names (texts operands.now))) }
     ensures fit { IfSome result IsFit }

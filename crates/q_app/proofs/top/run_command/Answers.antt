@@ -58,6 +58,12 @@ returns-in-AnnotateShare-clause-does g c = as-asked (view_alarm g.A.Alarm c.args
 pub returns-in-AnnotateShare-clause-alarm : goal.returns-in-AnnotateShare-clause-alarm
 returns-in-AnnotateShare-clause-alarm g c = alarm-left _ _ _ c.args.command _ c.in-AnnotateShare.is tt _
 
+pub returns-in-Show-clause-does : goal.returns-in-Show-clause-does
+returns-in-Show-clause-does g c = as-asked (view_alarm g.A.Alarm c.args.alarm.now) (view_alarm g.A.Alarm c.args.alarm.now) _ _ _ c.args.command _ c.in-Show.is c.run-in-Show.ensures
+
+pub returns-in-Show-clause-alarm : goal.returns-in-Show-clause-alarm
+returns-in-Show-clause-alarm g c = alarm-left _ _ _ c.args.command _ c.in-Show.is tt _
+
 pub returns-in-Solve-clause-does : goal.returns-in-Solve-clause-does
 returns-in-Solve-clause-does g c = as-asked (view_alarm g.A.Alarm c.args.alarm.now) (view_alarm g.A.Alarm c.args.alarm.now) _ _ _ c.args.command _ c.in-Solve.is c.run-in-Solve.ensures
 
