@@ -146,6 +146,7 @@ pub record HasWritten (j : Share) (F : PrenexFormula) (es : List Entry) (s : Scr
   pub taken : AreHintedTaken j 0 (begun F) hinted s.annotator.formula
   pub steps : strip hinted ≡ steps_of es
   pub many : s.annotator.steps ≡ length hinted
+  pub counted : s.written ≡ count j 0 (strip hinted)
   pub logged : AllByRecursion IsLogged (strip hinted)
   pub parts : AreWritable j 0 hinted
   pub text_is : s.text.items ≡ header_in j ++ lines_in j 0 hinted
