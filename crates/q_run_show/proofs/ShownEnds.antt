@@ -1,17 +1,17 @@
 -- Steps that are taken from a formula on with their lines, and what the next one or the end tells.
-use Rattle.std.proofs.Common.{◌≡◌, ◌+◌, ◌∙◌, refl, sym, ap, subst, arith, ℕ, suc, Bool, false, cond, List, [], ◌∷◌, ◌++◌, length, length-append, append_assoc, append-nil, Some}
+use Rattle.std.proofs.Common.{◌≡◌, ◌+◌, ◌∙◌, refl, sym, ap, subst, arith, ℕ, suc, Bool, true, false, cond, List, [], ◌∷◌, ◌++◌, length, length-append, append_assoc, append-nil, Some, None, inl, inr}
 use Rattle.std.specs.List.{AllByRecursion}
 use Rattle.q_logic.specs.Prelude.{PrenexFormula, NumberedFormula, Hinted, IsStep, ProofStep, AreAlike, after, begun, hinted_after, kind_of, plain, standard, strip}
-use Rattle.q_logic.proofs.Common.{alike_swapped}
+use Rattle.q_logic.proofs.Common.{alike_swapped, alike_through, alike_after}
 use Rattle.q_log.specs.declared.error.LogError.{LogError}
 use Rattle.q_log.specs.Logs.{Parsed, behind, onto, finished, stopped}
 use Rattle.q_log.specs.Texts.{IsLogged}
 use Rattle.q_hinted.specs.Parts.{IsPartOf}
 use Rattle.q_shares.specs.Shares.{Share, count, judged}
 use Rattle.q_refutation.specs.Refutations.{IsLost}
-use Rattle.q_refutation.specs.SharedRefutations.{SharedIn}
-use Rattle.q_refutation.proofs.FirstEmpty.{alike_lost}
-use Rattle.q_refutation.proofs.SharedFront.{in-now}
+use Rattle.q_refutation.specs.SharedRefutations.{AreTakenUnlost, MayBeTaken, NotTaken, RefusedShared, SharedIn}
+use Rattle.q_refutation.proofs.FirstEmpty.{alike_lost, alike_may, alike_bad}
+use Rattle.q_refutation.proofs.SharedFront.{taken-more, in-behind, refused-front, in-now}
 use Rattle.q_shown.proofs.HintedRefuting.{begun-alike}
 use Rattle.q_check.specs.Annotations.{Annotating}
 use Rattle.q_command.specs.Logs.{Entry, steps_of, IsOffence}
@@ -20,20 +20,14 @@ use Rattle.q_command.specs.declared.part.Part.{Part}
 use Rattle.q_command.specs.declared.outcome.Outcome.{Outcome}
 use Rattle.q_command.specs.declared.outcome.Outcome.TheVariants as outcome
 use Rattle.q_command.proofs.LogEntries.{steps_of-append, strip-append}
-use Rattle.q_command.proofs.SharedSteps.{count-more}
+use Rattle.q_command.proofs.SharedSteps.{judged-valid, judged-cause, count-more}
 use Rattle.q_run_annotate.specs.AnnotatedShares.{AreWritable, header_in, line_if, lines_in}
-use Rattle.q_run_disprove.specs.Disproofs.{proof_of}
+use Rattle.q_run_disprove.specs.Disproofs.{IsOnLine}
 use Rattle.q_run_disprove.specs.HintedReadings.{BringsEmpty}
-use Rattle.q_run_disprove.specs.Readings.{Goes as Refutes, IsBegun as RefutesNothing, IsSoFar as HasRefuted}
-use Rattle.q_run_disprove.specs.SharedDisproofs.{ShareEndFails, ShareLineFails}
-use Rattle.q_run_disprove.specs.declared.disproved.Disproved.{Disproved}
-use Rattle.q_run_disprove.specs.declared.disproved.Disproved.TheVariants as disproved
-use Rattle.q_run_disprove.specs.declared.notes.Notes.TheVariants.{Unkept}
-use Rattle.q_run_disprove.specs.declared.verdict.Verdict.{Verdict}
-use Rattle.q_run_disprove.proofs.DisproofSteps as disproofs
+use Rattle.q_run_disprove.specs.SharedDisproofs.{ShareEndFails, ShareLeadsNowhere, ShareLineFails}
 use Rattle.q_run_disprove.proofs.HintedSteps.{lost-begun}
 use Rattle.q_run_show.specs.ShownShares.{AreHintedTaken, HintedMayBeTaken, IsShareText}
-use Rattle.q_run_show.specs.Readings.{EndsAt, EndsAtOnce, EndsWith, Finds, Goes, HasWritten, IsBegun, IsSoFar, IsUnderWay, Refuses, SaysEnd, Takes, refuter_of, turn}
+use Rattle.q_run_show.specs.Readings.{EndsAt, EndsAtOnce, EndsWith, Finds, Goes, HasWritten, IsBegun, IsSoFar, IsUnderWay, Refuses, SaysEnd, Takes, turn}
 use Rattle.q_run_show.specs.declared.ending.Ending.{Ending}
 use Rattle.q_run_show.specs.declared.ending.Ending.TheVariants as ending
 use Rattle.q_run_show.specs.declared.ending.HintedText.{HintedText}
@@ -107,17 +101,6 @@ module _ (j : Share) (F : PrenexFormula) (es : List Entry) (old : Scribe) (f : H
         subst (λ (N : NumberedFormula). AreAlike (after (plain old.annotator.formula) s) (plain N)) (sym g.formula)
         (taken-leaves (turn old) old.annotator.formula s g.proof g.may)
 
-    pub refutes : (IsLost (plain new.annotator.formula) → ⊥) → Refutes n s (refuter_of old) (refuter_of new)
-    refutes v = record {
-      may = taken-plain (turn old) old.annotator.formula s g.proof g.may;
-      alike = alike-behind;
-      under_way = record { limits = refl; keeps = refl; unlost = v; fewer = g.fewer; abreast = tt };
-      part = g.part;
-      steps = g.steps;
-      own = g.written;
-      noted = refl;
-    }
-
     pub lost-behind : IsLost (plain new.annotator.formula) → IsLost (after (plain old.annotator.formula) s)
     lost-behind v =
         alike_lost (plain new.annotator.formula) (after (plain old.annotator.formula) s)
@@ -154,13 +137,68 @@ goes-under_way s old new g =
     let t = g.takes in
     record { annotator = t.annotator; named = t.named; unlost = g.unlost; fewer = t.fewer }
 
+-- formulas that are alike take the same steps
+alike_taken : (own : Bool) (E G : PrenexFormula) (s : ProofStep) → AreAlike E G → MayBeTaken own standard E s → MayBeTaken own standard G s
+alike_taken true E G s a h = alike_may standard E G s a h
+alike_taken false E G s a h = judged-valid false standard E G s a h
+
+alike_not_taken : (own : Bool) (E G : PrenexFormula) (s : ProofStep) (c : ℕ) → AreAlike E G → NotTaken own standard E s c → NotTaken own standard G s c
+alike_not_taken true E G s c a h = alike_bad standard E G s c a h
+alike_not_taken false E G s c a h = judged-cause false standard E G s c a h
+
+same-length : (xs : List Entry) → length (steps_of xs) ≡ length xs
+same-length [] = refl
+same-length (x ∷ xs) = ap suc (same-length xs)
+
+on-line : (xs us : List Entry) (line : ℕ) → IsOnLine us 0 line → IsOnLine (xs ++ us) (length xs) line
+on-line [] us line h = h
+on-line (x ∷ xs) us line h = on-line xs us line h
+
+one-more : (own : Bool) (c : ℕ) → cond own (c + 1) c ≡ c + cond own (0 + 1) 0
+one-more true c = omega arith
+one-more false c = omega arith
+
 module _ (j : Share) (F : PrenexFormula) (es : List Entry) (s : Scribe) (f : IsSoFar j F es s) (u : IsUnderWay s) where
+  abbrev E : PrenexFormula
+  E = plain s.annotator.formula
+
+  -- the number of the next step
+  abbrev at : ℕ
+  at = 0 + length (steps_of es)
+
+  unlost : IsLost f.last → ⊥
+  unlost l = u.unlost (alike_lost f.last E f.alike l)
+
+  back : AreAlike E f.last
+  back = alike_swapped f.last E f.alike
+
+  next : s.annotator.steps ≡ at
+  next =
+      let w = f.written in
+      let n : length (strip w.hinted) ≡ length (steps_of es) = ap length w.steps in
+      omega (arith, w.many, n, length-strip w.hinted)
+
+  turn-at : turn s ≡ j at
+  turn-at = (let w = f.written in ap (λ (i : Share). i s.annotator.steps) w.share ∙ ap j next)
+
+  own-at : s.written ≡ count j 0 (steps_of es)
+  own-at = (let w = f.written in w.counted ∙ ap (count j 0) w.steps)
+
+  taken : (x : ProofStep) → MayBeTaken (turn s) standard E x → MayBeTaken (j at) standard f.last x
+  taken x h = subst (λ (own : Bool). MayBeTaken own standard f.last x) turn-at (alike_taken (turn s) E f.last x back h)
+
   pub goes-on : (n : ℕ) (x : ProofStep) (new : Scribe) → Goes x s new → IsSoFar j F (es ++ (n, x) ∷ []) new
   goes-on n x new g =
-      let l : IsLogged x = logged-now x s new u g.takes g.lawful in
+      let t = g.takes in
+      let l : IsLogged x = logged-now x s new u t g.lawful in
+      let may : MayBeTaken (turn s) standard E x = taken-plain (turn s) s.annotator.formula x t.proof t.may in
       record {
-        written = written-more j F es s f.written u n x new g.takes l;
-        refuted = disproofs.goes-on false j F es (refuter_of s) f.refuted u.unlost n x (refuter_of new) (refutes j F es s f.written u n x new g.takes l g.unlost);
+        written = written-more j F es s f.written u n x new t l;
+        last = after f.last x;
+        made = subst (λ (ss : List ProofStep). AreTakenUnlost j standard 0 F ss (after f.last x)) (sym (steps_of-append es ((n, x) ∷ [])))
+            (taken-more j standard 0 F f.last (steps_of es) x f.made unlost (taken x may));
+        alike = alike_through (after f.last x) (after E x) (plain new.annotator.formula) (alike_after f.last E x f.alike)
+            (alike-behind j F es s f.written u n x new t l);
       }
 
   -- the text of the steps up to the empty clause
@@ -187,28 +225,46 @@ module _ (j : Share) (F : PrenexFormula) (es : List Entry) (s : Scribe) (f : IsS
       let w = written-more j F es s f.written u e.0 e.1 h.new h.takes (logged-now e.1 s h.new u h.takes h.lawful) in
       w.counted
 
-  abbrev said : Disproved → Verdict
-  said w = record { outcome = w; notes = Unkept }
+  -- `disprove` comes to the empty clause by the same step
+  refutes : (e : Entry) (us : List Entry) (n : ℕ) → MayBeTaken (turn s) standard E e.1 → IsLost (after E e.1) → n ≡ cond (turn s) (s.written + 1) s.written →
+      SharedIn j standard 0 F (steps_of (es ++ e ∷ us)) n
+  refutes e us n may lost k =
+      let now : IsLost (after f.last e.1) = alike_lost (after E e.1) (after f.last e.1) (alike_after E f.last e.1 back) lost in
+      let c : ℕ = count j 0 (steps_of es) in
+      let one : SharedIn j standard at f.last (e.1 ∷ steps_of us) (cond (j at) (0 + 1) 0) =
+      inr (unlost, taken e.1 may, (0, in-now j standard (at + 1) (after f.last e.1) (steps_of us) now, refl)) in
+      let front : SharedIn j standard 0 F (steps_of es ++ e.1 ∷ steps_of us) (c + cond (j at) (0 + 1) 0) =
+      in-behind j standard 0 F f.last (steps_of es) (e.1 ∷ steps_of us) (cond (j at) (0 + 1) 0) f.made one in
+      let number : c + cond (j at) (0 + 1) 0 ≡ n =
+      sym (k ∙ (ap (λ (i : ℕ). cond (turn s) (i + 1) i) own-at ∙ (ap (λ (own : Bool). cond own (c + 1) c) turn-at ∙ one-more (j at) c))) in
+      subst (λ (ss : List ProofStep). SharedIn j standard 0 F ss n) (sym (steps_of-append es (e ∷ us)))
+      (subst (λ (i : ℕ). SharedIn j standard 0 F (steps_of es ++ e.1 ∷ steps_of us) i) number front)
 
   finds-says : (e : Entry) (t : HintedText) (o : Parsed) → Finds e.1 s t → SaysEnd j (ending.Shown t) F (behind es (onto e o))
   finds-says e t o h =
       let g = h.takes in
       let text = h.text in
       let l : IsLogged e.1 = logged-now e.1 s h.new u g h.lawful in
-      let told = disproofs.step-says false j F es (refuter_of s) f.refuted u.unlost (said (disproved.False t.steps)) e o (record {
-        says = (
-          taken-plain (turn s) s.annotator.formula e.1 g.proof g.may,
-          lost-behind j F es s f.written u e.0 e.1 h.new g l h.lost,
-          text.steps ∙ g.written,
-        );
-        noted = refl;
-      }) in
-      record { refutes = told.says; hinted = share-text e t o h; counted = text.steps ∙ counted-by e h }
+      record {
+        refutes = refutes e o.steps t.steps (taken-plain (turn s) s.annotator.formula e.1 g.proof g.may)
+            (lost-behind j F es s f.written u e.0 e.1 h.new g l h.lost) (text.steps ∙ g.written);
+        hinted = share-text e t o h;
+        counted = text.steps ∙ counted-by e h;
+      }
 
+  -- a step that is not taken
   line-says : (n c : ℕ) (e : Entry) (o : Parsed) → EndsAt (ending.Refused (outcome.RefusedLine n c)) s e → ShareLineFails j n c F (behind es (onto e o))
-  line-says n c e o h =
-      let told = disproofs.step-says false j F es (refuter_of s) f.refuted u.unlost (said (disproved.RefusedLine n c)) e o (record { says = h; noted = tt }) in
-      told.says
+  line-says n c e o (line, bad) =
+      let not-now : NotTaken (j at) standard f.last e.1 c =
+      subst (λ (own : Bool). NotTaken own standard f.last e.1 c) turn-at (alike_not_taken (turn s) E f.last e.1 c back bad) in
+      let here : RefusedShared j standard at f.last (e.1 ∷ steps_of o.steps) 0 (Some c) = (unlost, inl (refl, (c, not-now, refl))) in
+      let place : length es ≡ length (steps_of es) + 0 = omega (arith, same-length es) in
+      inl (
+        length (steps_of es) + 0,
+        subst (λ (ss : List ProofStep). RefusedShared j standard 0 F ss (length (steps_of es) + 0) (Some c)) (sym (steps_of-append es (e ∷ o.steps)))
+            (refused-front j standard 0 F f.last (steps_of es) (e.1 ∷ steps_of o.steps) 0 (Some c) f.made here),
+        subst (λ (i : ℕ). IsOnLine (es ++ e ∷ o.steps) i n) place (on-line es (e ∷ o.steps) n line),
+      )
 
   -- what is said of a step
   pub step-says : (x : Ending) (e : Entry) (o : Parsed) → EndsAt x s e → SaysEnd j x F (behind es (onto e o))
@@ -221,11 +277,18 @@ module _ (j : Share) (F : PrenexFormula) (es : List Entry) (s : Scribe) (f : IsS
   step-says (ending.Refused outcome.NoMemory) e o h = tt
 
   -- no step follows
+  nowhere : ShareLeadsNowhere j F (behind es finished)
+  nowhere = (
+    length (steps_of es) + 0,
+    subst (λ (ss : List ProofStep). RefusedShared j standard 0 F ss (length (steps_of es) + 0) None) (sym (steps_of-append es []))
+        (refused-front j standard 0 F f.last (steps_of es) [] 0 None f.made (unlost, refl, refl)),
+  )
+
   pub end-says : ShareEndFails j F (behind es finished)
-  end-says = disproofs.end-says false j F es (refuter_of s) f.refuted u.unlost
+  end-says = (nowhere, refl)
 
   pub offence-says : (x : LogError) (n c : ℕ) → IsOffence (Some x) n c → ShareLineFails j n c F (behind es (stopped x))
-  offence-says x n c o = disproofs.offence-says false j F es (refuter_of s) f.refuted u.unlost x n c o
+  offence-says x n c o = inr (nowhere, o)
 
 -- before the first step
 pub at-once : (j : Share) (F : PrenexFormula) (x : Ending) (p : Parsed) → EndsAtOnce j F x → SaysEnd j x F p
@@ -256,7 +319,6 @@ begins F p s b =
     let none : s.annotator.steps ≡ 0 = ap (λ (x : Annotating). x.steps) b.annotator in
     let alike : AreAlike F (plain s.annotator.formula) =
     subst (λ (M : NumberedFormula). AreAlike F (plain M)) (sym N) (alike_swapped (plain (begun F)) F (begun-alike F)) in
-    let way = b.under_way in
     record {
       written = record {
         share = ap share_of b.part;
@@ -269,12 +331,7 @@ begins F p s b =
         parts = tt;
         text_is = b.text ∙ sym (append-nil (header_in (share_of p)));
       };
-      refuted = disproofs.begins false p F (refuter_of s) (record {
-        under_way = record { limits = refl; keeps = refl; unlost = way.unlost; fewer = way.fewer; abreast = tt };
-        alike = alike;
-        part_is = b.part;
-        none = none;
-        no_own = b.written;
-        notes = refl;
-      });
+      last = F;
+      made = refl;
+      alike = alike;
     }
