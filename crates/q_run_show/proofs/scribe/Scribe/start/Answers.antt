@@ -5,8 +5,8 @@ use Rattle.q_check.specs.Annotations.{Annotating}
 use Rattle.q_run_disprove.proofs.HintedSteps.{begun-lost}
 use Rattle.q_run_show.proofs.scribe.Scribe.start.Goals as goal
 
-pub returns-in-Ok-annotator_of : goal.returns-in-Ok-annotator_of
-returns-in-Ok-annotator_of c =
+pub returns-in-Ok-annotator_of-clause-begun : goal.returns-in-Ok-annotator_of-clause-begun
+returns-in-Ok-annotator_of-clause-begun c =
     let e = c.in-Ok-annotator_of.ensures.begun in
     record {
       annotator = e;
@@ -22,5 +22,5 @@ returns-in-Ok-annotator_of c =
       written = refl;
     }
 
-pub returns-then-is_lost : goal.returns-then-is_lost
-returns-then-is_lost c = (c.is_lost.ensures.yes c.if-is_lost.true, refl, c.in-Ok.ensures)
+pub returns-then-is_lost-clause-lost : goal.returns-then-is_lost-clause-lost
+returns-then-is_lost-clause-lost c = (c.is_lost.ensures.yes c.if-is_lost.true, refl, c.in-Ok.ensures)
