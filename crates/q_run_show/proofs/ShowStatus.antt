@@ -24,8 +24,17 @@ use Rattle.q_run_annotate.specs.declared.annotated.Annotated.TheVariants.{Writte
 use Rattle.q_run_annotate.proofs.AnnotateStatus.{annotate-usage}
 use Rattle.q_run_disprove.specs.SharedDisproofs.{IsNoShareDisproof, IsShareDisproof, PartDisprovesExactly, PartSays}
 use Rattle.q_run_disprove.proofs.DisproveStatus.{due, not-due, faulty, log-stays, input-stays}
-use Rattle.q_run_disprove.proofs.SharedStatus as disproofs
+use Rattle.q_run_disprove.proofs.SharedStatus.{part-answers}
 use Rattle.q_run_show.specs.Shows.{HoldsShown, MayHoldShown, NotShown, ShowFiles, Shows, ShowsExactly, told, two_read}
+
+done-stays : MayCome status.Done → ⊥
+done-stays (inl a) = cc
+done-stays (inr (inl a)) = cc
+done-stays (inr (inr a)) = cc
+
+-- a sink to which nothing was put
+quiet : SinkView
+quiet = record { written = None; faults = 0; wants = 0 }
 
 module _ (j : Share) (given : Status) (n : ShowFiles) (binary : Bool) (before : Disk) (after : Option Disk) where
   abbrev Result : Type 0
@@ -46,7 +55,7 @@ module _ (j : Share) (given : Status) (n : ShowFiles) (binary : Bool) (before : 
 
   -- the same statuses as those of `disprove`, where no file has changed
   said : (o : Outcome) → PartSays j o (two_read n) binary before → given ≡ status_of o → PartDisprovesExactly j given (two_read n) binary before (Some before)
-  said o h e = disproofs.due-answers j given (two_read n) binary before (Some before) o h (refl) e
+  said o h e = part-answers j given (two_read n) binary before (Some before) o quiet quiet (h, refl) (inl e)
 
   -- of these three statuses none is another one
   untouched-not : (s : Status) → given ≡ s → s ≢ status.LogRefused → s ≢ status.InputRefused → s ≢ status.ReadFault → IsUntouched given → ⊥
@@ -70,8 +79,8 @@ module _ (j : Share) (given : Status) (n : ShowFiles) (binary : Bool) (before : 
   fault : MayCome given → (given ≡ status.ReadFault → after ≡ Some before) →
       ((given ≡ status.WriteFault) ⊎ (given ≡ status.NoMemory) → (after ≡ Some before) ⊎ MayHoldShown j n binary before after) → Result
   fault m same l = record {
-    done = faulty given status.Done Disproof m disproofs.done-stays;
-    written = λ e. absurd (disproofs.done-stays (subst MayCome e m));
+    done = faulty given status.Done Disproof m done-stays;
+    written = λ e. absurd (done-stays (subst MayCome e m));
     log_refused = faulty given status.LogRefused NoDisproof m log-stays;
     input_refused = faulty given status.InputRefused (IsNoFormula (bytes_at before n.input)) m input-stays;
     untouched = λ x. elim x [

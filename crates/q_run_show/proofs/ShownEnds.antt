@@ -220,11 +220,6 @@ module _ (j : Share) (F : PrenexFormula) (es : List Entry) (s : Scribe) (f : IsS
         text_is = text.text ∙ w.text_is;
       }
 
-  counted-by : (e : Entry) {t : HintedText} (h : Finds e.1 s t) → h.new.written ≡ count j 0 (strip (f.written.hinted ++ record { step = e.1; proof = h.takes.proof } ∷ []))
-  counted-by e h =
-      let w = written-more j F es s f.written u e.0 e.1 h.new h.takes (logged-now e.1 s h.new u h.takes h.lawful) in
-      w.counted
-
   -- `disprove` comes to the empty clause by the same step
   refutes : (e : Entry) (us : List Entry) (n : ℕ) → MayBeTaken (turn s) standard E e.1 → IsLost (after E e.1) → n ≡ cond (turn s) (s.written + 1) s.written →
       SharedIn j standard 0 F (steps_of (es ++ e ∷ us)) n
@@ -241,15 +236,17 @@ module _ (j : Share) (F : PrenexFormula) (es : List Entry) (s : Scribe) (f : IsS
       (subst (λ (i : ℕ). SharedIn j standard 0 F (steps_of es ++ e.1 ∷ steps_of us) i) number front)
 
   finds-says : (e : Entry) (t : HintedText) (o : Parsed) → Finds e.1 s t → SaysEnd j (ending.Shown t) F (behind es (onto e o))
-  finds-says e t o h =
-      let g = h.takes in
-      let text = h.text in
-      let l : IsLogged e.1 = logged-now e.1 s h.new u g h.lawful in
+  unfolding share-text written-more
+  finds-says e t o k =
+      let g = k.takes in
+      let text = k.text in
+      let l : IsLogged e.1 = logged-now e.1 s k.new u g k.lawful in
+      let more = written-more j F es s f.written u e.0 e.1 k.new g l in
       record {
         refutes = refutes e o.steps t.steps (taken-plain (turn s) s.annotator.formula e.1 g.proof g.may)
-            (lost-behind j F es s f.written u e.0 e.1 h.new g l h.lost) (text.steps ∙ g.written);
-        hinted = share-text e t o h;
-        counted = text.steps ∙ counted-by e h;
+            (lost-behind j F es s f.written u e.0 e.1 k.new g l k.lost) (text.steps ∙ g.written);
+        hinted = share-text e t o k;
+        counted = text.steps ∙ more.counted;
       }
 
   -- a step that is not taken
