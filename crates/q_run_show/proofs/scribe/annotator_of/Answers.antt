@@ -1,7 +1,6 @@
-use Rattle.std.proofs.Common.{◌≡◌, ◌≤◌, ◌+◌, ◌^◌, refl, sym, ap, subst, arith, length, slice_get, Some, None}
+use Rattle.std.proofs.Common.{sym, subst, arith}
 use Rattle.q_logic.proofs.Common.{ok_then}
 use Rattle.q_check.specs.Annotations.{Annotating}
-use Rattle.q_check.proofs.FirstNumbers.{length-numbered_matrix}
 use Rattle.q_run_show.specs.Readings.{AreNamed}
 use Rattle.q_run_show.proofs.ShownSteps.{sets-out}
 use Rattle.q_run_show.proofs.scribe.annotator_of.Goals as goal
