@@ -1,21 +1,19 @@
 -- When each status of `annotate` of a refutation comes.
-use Rattle.std.proofs.Common.{◌≡◌, ◌≢◌, ◌⊎◌, inl, inr, ◌∙◌, refl, sym, ap, subst, ℕ, Bool, List, [], length, unwrap_or, Option, None, Some}
+use Rattle.std.proofs.Common.{◌≡◌, ◌≢◌, ◌⊎◌, inl, inr, ◌∙◌, refl, sym, ap, subst, ℕ, Bool, [], length, unwrap_or, Option, None, Some}
 use Rattle.std.proofs.Math.Seq.{take-length}
 use Rattle.q_io.specs.Files.{Disk, bytes_at}
 use Rattle.q_shares.specs.Shares.{Share}
 use Rattle.q_refutation.proofs.SharedRefuting.{number-shared}
-use Rattle.q_logic.specs.Prelude.{PrenexFormula, standard}
+use Rattle.q_logic.specs.Prelude.{standard}
 use Rattle.q_command.specs.Checks.{IsNoFormula, IsUnverified, MayCome}
 use Rattle.q_command.specs.Parts.{share_of}
 use Rattle.q_command.specs.Sinks.{SinkView, IsDue}
 use Rattle.q_command.specs.Statuses.{status_of}
 use Rattle.q_command.specs.declared.outcome.Outcome.{Outcome}
 use Rattle.q_command.specs.declared.outcome.Outcome.TheVariants as outcome
-use Rattle.q_command.specs.declared.outcome.Role.TheVariants.{In, Out}
 use Rattle.q_command.specs.declared.part.Part.{Part}
 use Rattle.q_command.specs.declared.status.Status.{Status}
 use Rattle.q_command.specs.declared.status.Status.TheVariants as status
-use Rattle.q_command.proofs.CheckStatus.{no_offence}
 use Rattle.q_command.proofs.ToldLaws.{ToldLaws, exact}
 use Rattle.q_run_annotate.specs.AnnotatedLines.{status_of_annotated}
 use Rattle.q_run_annotate.specs.Annotates.{IsUntouched}
@@ -23,7 +21,7 @@ use Rattle.q_run_annotate.specs.declared.annotated.Annotated.{Annotated}
 use Rattle.q_run_annotate.specs.declared.annotated.Annotated.TheVariants.{Written, Unverified, WriteFault, NoMemory}
 use Rattle.q_run_annotate.proofs.AnnotateStatus.{annotate-usage}
 use Rattle.q_run_disprove.specs.SharedDisproofs.{IsNoShareDisproof, IsShareDisproof, PartDisprovesExactly, PartSays}
-use Rattle.q_run_disprove.proofs.DisproveStatus.{due, not-due, faulty, log-stays, input-stays}
+use Rattle.q_run_disprove.proofs.DisproveStatus.{due, faulty, log-stays, input-stays}
 use Rattle.q_run_disprove.proofs.SharedStatus.{part-answers}
 use Rattle.q_run_show.specs.Shows.{HoldsShown, MayHoldShown, NotShown, ShowFiles, Shows, ShowsExactly, told, two_read}
 

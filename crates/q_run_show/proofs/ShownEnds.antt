@@ -21,7 +21,7 @@ use Rattle.q_command.specs.declared.outcome.Outcome.{Outcome}
 use Rattle.q_command.specs.declared.outcome.Outcome.TheVariants as outcome
 use Rattle.q_command.proofs.LogEntries.{steps_of-append, strip-append}
 use Rattle.q_command.proofs.SharedSteps.{judged-valid, judged-cause, count-more}
-use Rattle.q_run_annotate.specs.AnnotatedShares.{AreWritable, header_in, line_if, lines_in}
+use Rattle.q_run_annotate.specs.AnnotatedShares.{header_in, line_if, lines_in}
 use Rattle.q_run_disprove.specs.Disproofs.{IsOnLine}
 use Rattle.q_run_disprove.specs.HintedReadings.{BringsEmpty}
 use Rattle.q_run_disprove.specs.SharedDisproofs.{ShareEndFails, ShareLeadsNowhere, ShareLineFails}

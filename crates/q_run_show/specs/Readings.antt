@@ -1,5 +1,5 @@
 -- A proof whose share is written with hints while it is read: what a step does, what some bytes do, and what is said at the end.
-use Rattle.std.specs.Prelude.{◌≡◌, ◌≤◌, ◌<◌, ◌+◌, ◌^◌, ℕ, Bool, false, cond, List, [], ◌++◌, length, take, drop, Result, Ok, Err}
+use Rattle.std.specs.Prelude.{◌≡◌, ◌≤◌, ◌<◌, ◌+◌, ◌^◌, ℕ, Bool, cond, List, [], ◌++◌, length, take, drop}
 use Rattle.std.specs.List.{AllByRecursion}
 use Rattle.q_logic.specs.Prelude.{PrenexFormula, AreAlike, Prefix, Hinted, ProofPart, begun, hinted_after, plain, strip, standard, kind_of, ProofStep, IsStep}
 use Rattle.q_log.specs.Logs.{Parsed}
@@ -10,7 +10,6 @@ use Rattle.q_binary.specs.Forms.{left_of, to_come}
 use Rattle.q_shares.specs.Shares.{Share, count, judged}
 use Rattle.q_refutation.specs.Refutations.{IsLost}
 use Rattle.q_refutation.specs.SharedRefutations.{AreTakenUnlost, NotTaken}
-use Rattle.q_check.specs.Annotations.{Annotating}
 use Rattle.q_command.specs.Judging.{bare}
 use Rattle.q_command.specs.Logs.{Entry, steps_of}
 use Rattle.q_command.specs.Parts.{share_of}
