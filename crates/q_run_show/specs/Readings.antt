@@ -1,7 +1,7 @@
 -- A proof whose share is written with hints while it is read: what a step does, what some bytes do, and what is said at the end.
-use Rattle.std.specs.Prelude.{◌≡◌, ◌≤◌, ◌<◌, ◌+◌, ◌^◌, ℕ, Bool, false, cond, List, [], ◌++◌, length, take, drop, Result, Ok, Err}
+use Rattle.std.specs.Prelude.{◌≡◌, ◌≤◌, ◌<◌, ◌+◌, ◌^◌, ℕ, Bool, cond, List, [], ◌++◌, length, take, drop}
 use Rattle.std.specs.List.{AllByRecursion}
-use Rattle.q_logic.specs.Prelude.{PrenexFormula, Prefix, Hinted, ProofPart, begun, hinted_after, plain, strip, standard, kind_of, ProofStep, IsStep}
+use Rattle.q_logic.specs.Prelude.{PrenexFormula, AreAlike, Prefix, Hinted, ProofPart, begun, hinted_after, plain, strip, standard, kind_of, ProofStep, IsStep}
 use Rattle.q_log.specs.Logs.{Parsed}
 use Rattle.q_log.specs.Texts.{IsLogged}
 use Rattle.q_hinted.specs.Logs.{Entry as BothEntry, behind}
@@ -9,8 +9,7 @@ use Rattle.q_hinted.specs.Parts.{IsPartOf}
 use Rattle.q_binary.specs.Forms.{left_of, to_come}
 use Rattle.q_shares.specs.Shares.{Share, count, judged}
 use Rattle.q_refutation.specs.Refutations.{IsLost}
-use Rattle.q_refutation.specs.SharedRefutations.{NotTaken}
-use Rattle.q_check.specs.Annotations.{Annotating}
+use Rattle.q_refutation.specs.SharedRefutations.{AreTakenUnlost, NotTaken}
 use Rattle.q_command.specs.Judging.{bare}
 use Rattle.q_command.specs.Logs.{Entry, steps_of}
 use Rattle.q_command.specs.Parts.{share_of}
@@ -21,9 +20,6 @@ use Rattle.q_run_annotate.specs.AnnotatedShares.{AreWritable, header_in, line_if
 use Rattle.q_run_annotate.specs.Readings.{IsUnderWay as Annotates}
 use Rattle.q_run_disprove.specs.Disproofs.{entries_in, proof_of}
 use Rattle.q_run_disprove.specs.SharedDisproofs.{ShareEndFails, ShareLineFails}
-use Rattle.q_run_disprove.specs.Readings.{IsSoFar as HasRefuted}
-use Rattle.q_run_disprove.specs.declared.notes.Notes.TheVariants.{Unkept}
-use Rattle.q_run_disprove.specs.declared.refuter.Refuter.{Refuter}
 use Rattle.q_run_show.specs.ShownShares.{AreHintedTaken, HintedMayBeTaken, IsShareShown}
 use Rattle.q_run_show.specs.declared.ending.Ending.{Ending}
 use Rattle.q_run_show.specs.declared.ending.Ending.TheVariants as ending
@@ -129,16 +125,6 @@ SaysEnd j (ending.Refused o) F p = Refuses j o F p
 abbrev pub IsFault : Ending → Type 0
 IsFault e = e ≡ ending.Refused outcome.ReadFault
 
--- the judge of `disprove` that has made the same steps
-abbrev pub refuter_of : Scribe → Refuter
-refuter_of s = record {
-  checker = record { formula = plain s.annotator.formula; undo = []; limits = standard; keeps = false };
-  part = s.part;
-  steps = s.annotator.steps;
-  own = s.written;
-  notes = Unkept;
-}
-
 -- these steps are taken from F on, and the text has the lines of those in the share
 pub record HasWritten (j : Share) (F : PrenexFormula) (es : List Entry) (s : Scribe) : Type 0 where
   pub share : share_of s.part ≡ j
@@ -146,14 +132,17 @@ pub record HasWritten (j : Share) (F : PrenexFormula) (es : List Entry) (s : Scr
   pub taken : AreHintedTaken j 0 (begun F) hinted s.annotator.formula
   pub steps : strip hinted ≡ steps_of es
   pub many : s.annotator.steps ≡ length hinted
+  pub counted : s.written ≡ count j 0 (strip hinted)
   pub logged : AllByRecursion IsLogged (strip hinted)
   pub parts : AreWritable j 0 hinted
   pub text_is : s.text.items ≡ header_in j ++ lines_in j 0 hinted
 
--- and `disprove` would not have ended before
+-- and `disprove` would have taken them too, and come to the same formula, up to the order of clauses
 pub record IsSoFar (j : Share) (F : PrenexFormula) (es : List Entry) (s : Scribe) : Type 0 where
   pub written : HasWritten j F es s
-  pub refuted : HasRefuted false j F es (refuter_of s)
+  pub last : PrenexFormula
+  pub made : AreTakenUnlost j standard 0 F (steps_of es) last
+  pub alike : AreAlike last (plain s.annotator.formula)
 
 -- there is room to count a step for each byte
 pub record IsOpen (r : Reading) : Type 0 where

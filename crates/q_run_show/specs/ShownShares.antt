@@ -6,7 +6,7 @@ use Rattle.q_log.specs.Logs.{Parsed}
 use Rattle.q_log.specs.Texts.{IsLogged}
 use Rattle.q_hinted.specs.Parts.{IsPartOf}
 use Rattle.q_hinted.specs.Texts.{log_text}
-use Rattle.q_shares.specs.Shares.{Share, judged}
+use Rattle.q_shares.specs.Shares.{Share, count, judged}
 use Rattle.q_same_steps.specs.HintedMaking.{HintedApplies}
 use Rattle.q_refutation.specs.Refutations.{IsLost}
 use Rattle.q_shown.specs.HintedRefutations.{HintedMayBeMade, HintedRefutation, HintedRefutedIn}
@@ -42,6 +42,7 @@ pub record IsShareText (j : Share) (F : PrenexFormula) (ss : List ProofStep) (te
 pub record IsShareShown (j : Share) (steps : ℕ) (text : List ℕ) (F : PrenexFormula) (p : Parsed) : Type 0 where
   pub refutes : IsShareRefutationIn j steps F p
   pub hinted : IsShareText j F (steps_of p.steps) text
+  pub counted : steps ≡ count j 0 (strip hinted.hinted)
 
 -- the canonical text of a log with hints: its steps, so many, lead from F to the empty clause as their proof parts show; without these
 -- parts they are the front of ss

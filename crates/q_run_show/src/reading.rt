@@ -143,12 +143,7 @@ impl Reading {
 }
 
 // What there is to say of the proof in a file, of which nothing is read yet.
-fn read_all<F: Files>(
-    files: &mut F,
-    name: &str,
-    buffer: &mut [u8],
-    mut reading: Reading,
-) -> Ending
+fn read_all<F: Files>(files: &mut F, name: &str, buffer: &mut [u8], mut reading: Reading) -> Ending
     requires room { 0 < length buffer.old }
     requires goes_on { IsOpen reading }
     requires left { left_of reading.reader ≡ 1099511627776 }
