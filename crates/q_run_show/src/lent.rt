@@ -1,4 +1,5 @@
-// TEMPORARY: what q_check, q_run_annotate and q_run_disprove will lend.
+// A place for the annotator, so that it is let go by one call, and how the empty clause is told: by the formula at the start, and then by
+// the step that brings it. `q_run_annotate` and `q_run_disprove` have the like for themselves.
 ghost use Rattle.std.specs.Prelude.{◌≡◌, ◌<◌, ◌+◌, ◌^◌, [], IsTrue, true, false, IfOk, IfErr, OnOk, OnErr};
 ghost use Rattle.q_logic.specs.Prelude.{begun, plain, kind_of, HintedValid, hinted_after, standard, IsStep};
 ghost use Rattle.q_logic.specs.declared.steps.Kind.TheVariants.{Delete};
@@ -80,7 +81,7 @@ impl BoxedAnnotator {
             (IsUnfitFor self.old.limits (plain self.old.formula) step.now) }
         ensures unchanged { OnErr result (self.new ≡ self.old) }
     {
-        self.row[0].step(step)
+        self.row[0].delete(step)
     }
 
     /// Makes the step if it can be made, and shows nothing.
