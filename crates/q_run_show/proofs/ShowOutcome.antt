@@ -1,5 +1,5 @@
 -- What an outcome says, from its parts.
-use Rattle.std.proofs.Common.{◌≡◌, refl, sym, subst, ℕ, Bool, List, Option, None, Some, IfSome}
+use Rattle.std.proofs.Common.{◌≡◌, refl, sym, subst, ℕ, Bool, List, Option}
 use Rattle.q_logic.specs.Prelude.{PrenexFormula}
 use Rattle.q_io.specs.Files.{Disk, HoldsBytes, MayHoldFront, bytes_at}
 use Rattle.q_shares.specs.Shares.{Share}

@@ -1,10 +1,8 @@
 -- A step that is shown or made, and what is said of one that is not.
-use Rattle.std.proofs.Common.{◌≡◌, ◌≤◌, ◌<◌, ◌+◌, ◌^◌, ◌∙◌, refl, sym, ap, subst, arith, ℕ, Bool, true, false, cond, List, [], ◌∷◌, ◌++◌, length, append-nil, slice_get, Some, None, Result, Ok, Err, IfOk}
+use Rattle.std.proofs.Common.{◌≡◌, ◌≤◌, ◌<◌, ◌+◌, ◌^◌, ◌∙◌, refl, sym, ap, subst, arith, ℕ, Bool, true, false, [], ◌++◌, length, append-nil, slice_get, Some, None, Result, Ok, Err, IfOk}
 use Rattle.q_logic.specs.declared.limits.Limits.{Limits}
-use Rattle.q_logic.specs.declared.proof_part.ProofKind.{ProofKind}
-use Rattle.q_logic.specs.declared.proof_part.ProofKind.TheVariants.{Implied}
 use Rattle.q_logic.specs.declared.steps.Kind.TheVariants.{Delete}
-use Rattle.q_logic.specs.Prelude.{PrenexFormula, NumberedFormula, HintGroup, ProofPart, ProofStep, HintedValid, add, delete, drop_literal, fresh, remove_variable, kind_of, begun, plain, hinted_after, after, standard, AreAlike, slot}
+use Rattle.q_logic.specs.Prelude.{PrenexFormula, NumberedFormula, ProofPart, ProofStep, HintedValid, add, delete, drop_literal, fresh, remove_variable, kind_of, begun, plain, hinted_after, after, standard, AreAlike, slot}
 use Rattle.q_logic.proofs.Common.{alike_swapped}
 use Rattle.q_judge.specs.declared.error.CheckError.{CheckError}
 use Rattle.q_judge.specs.declared.error.CheckError.TheVariants as check
@@ -28,7 +26,7 @@ use Rattle.q_command.specs.declared.outcome.Outcome.{Outcome}
 use Rattle.q_command.specs.declared.outcome.Outcome.TheVariants as outcome
 use Rattle.q_run_annotate.specs.AnnotatedShares.{line_if}
 use Rattle.q_run_annotate.specs.Readings.{IsUnderWay as Annotates}
-use Rattle.q_run_annotate.proofs.WritableProofs.{fits-front, numbers-fit, part-fits}
+use Rattle.q_run_annotate.proofs.WritableProofs.{fits-front, numbers-fit}
 use Rattle.q_run_disprove.specs.HintedReadings.{BringsEmpty}
 use Rattle.q_run_disprove.specs.Readings.{IsBadFor, counted}
 use Rattle.q_run_disprove.proofs.TakenSteps.{own-fewer}
