@@ -165,7 +165,3 @@ unfit b other w m E n s (check.Refused c) q l h =
     subst (λ (o : Outcome). Convicts b o E (n, s)) (sym q)
     (subst (λ (x : Bool). Convicts x (outcome.RefusedLine n c) E (n, s)) (sym other) (refl, subst (λ (x : Limits). IsUnfitFor x E s (check.Refused c)) l h))
 unfit b other w m E n s check.NoMemory q l h = subst (λ (o : Outcome). Convicts b o E (n, s)) (sym q) tt
-
-pub no-fault : (n : ℕ) (e : CheckError) (w : Outcome) → w ≡ step_refused n e → w ≡ outcome.ReadFault → ⊥
-no-fault n (check.Refused c) w q r = let z : step_refused n (check.Refused c) ≡ outcome.ReadFault = sym q ∙ r in cc
-no-fault n check.NoMemory w q r = let z : step_refused n check.NoMemory ≡ outcome.ReadFault = sym q ∙ r in cc
