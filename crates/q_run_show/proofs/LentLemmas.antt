@@ -1,7 +1,7 @@
 -- What q_run_annotate and q_run_disprove prove of the text, the steps and the header, of types that they keep to themselves.
-use Rattle.std.proofs.Common.{◌≡◌, ◌≤◌, ◌<◌, ◌+◌, ◌^◌, ◌∙◌, refl, sym, ap, subst, arith, ℕ, zero, suc, Bool, cond, List, [], ◌∷◌, ◌++◌, length, length-append, append_assoc, append-nil, slice_get, Option, Some, None, inl, inr}
+use Rattle.std.proofs.Common.{◌≡◌, ◌+◌, ◌∙◌, refl, sym, ap, subst, arith, ℕ, zero, suc, Bool, cond, List, [], ◌∷◌, ◌++◌, length, append_assoc, append-nil, slice_get, Option, Some, None, inl, inr}
 use Rattle.q_logic.specs.declared.limits.Limits.{Limits}
-use Rattle.q_logic.specs.Prelude.{PrenexFormula, Matrix, Clause, IsIn, NumberedFormula, Hinted, ProofPart, plain, hinted_after, standard, AreAlike, kind_of, ProofStep, strip, after, without, live, set_slot, one_less, others, Slots, slot}
+use Rattle.q_logic.specs.Prelude.{PrenexFormula, Clause, NumberedFormula, Hinted, ProofPart, plain, hinted_after, standard, AreAlike, kind_of, ProofStep, strip, after, without, live, set_slot, one_less, others, Slots, slot}
 use Rattle.q_logic.specs.Steps.{add, delete, drop_literal, fresh, remove_variable}
 use Rattle.q_logic.proofs.JustifiedRuns.{alike-refl, alike-sym, alike-trans, alike-cons}
 use Rattle.q_logic.proofs.NumberedClauses.{live-slot, live-gone}

@@ -23,7 +23,7 @@ use Rattle.q_command.proofs.AuditSteps.{front-of, left-over}
 use Rattle.q_command.proofs.LogEntries.{bare-append}
 use Rattle.q_run_disprove.specs.Disproofs.{bare_of, entries_in, proof_of}
 use Rattle.q_run_disprove.proofs.DisproofReading.{leads-none, leads-some}
-use Rattle.q_run_show.specs.Readings.{Advances, EndsAt, Goes, HasTaken, IsOpen, IsSoFar, IsStarted, IsUnderWay, Refuses, SaysEnd, Stands, Tells}
+use Rattle.q_run_show.specs.Readings.{Advances, EndsAt, Goes, HasTaken, IsOpen, IsSoFar, IsStarted, IsUnderWay, SaysEnd, Stands, Tells}
 use Rattle.q_run_show.specs.declared.ending.Ending.{Ending}
 use Rattle.q_run_show.specs.declared.ending.Ending.TheVariants as ending
 use Rattle.q_run_show.specs.declared.reading.Reading.{Reading}
@@ -185,10 +185,6 @@ tells_from a b piece i w f r rest = subst (λ xs. Tells w a xs) (front-of i piec
 pub tells_file : (a : Reading) (file : List ℕ) (place n : ℕ) (piece : List ℕ) (w : Ending) → piece ≡ take n (drop place file) → ((rest : List ℕ) → Tells w a (piece ++ rest)) → Tells w a (drop place file)
 tells_file a file place n piece w e r =
     subst (λ xs. Tells w a xs) (ap (λ xs. xs ++ drop n (drop place file)) e ∙ take-append-drop n (drop place file)) (r (drop n (drop place file)))
-
--- where it could not be read, nothing is said
-pub tells_nothing : (a : Reading) (bytes : List ℕ) (o : Outcome) (v : Ending) → v ≡ ending.Refused o → ((j : Share) (F : PrenexFormula) (p : Parsed) → Refuses j o F p) → Tells v a bytes
-tells_nothing a bytes o v e h = subst (λ (y : Ending). Tells y a bytes) (sym e) (λ b j F front s. h j F (proof_of b (front ++ bytes)))
 
 -- the reading stands behind the front of a file
 pub record HasReached (file : List ℕ) (place : ℕ) (first now : Reading) : Type 0 where

@@ -1,5 +1,5 @@
 -- What an outcome says, from its parts.
-use Rattle.std.proofs.Common.{◌≡◌, refl, sym, subst, ℕ, Bool, List, Option, None, Some, IfSome}
+use Rattle.std.proofs.Common.{◌≡◌, refl, sym, subst, ℕ, Bool, List, Option}
 use Rattle.q_logic.specs.Prelude.{PrenexFormula}
 use Rattle.q_io.specs.Files.{Disk, HoldsBytes, MayHoldFront, bytes_at}
 use Rattle.q_shares.specs.Shares.{Share}
@@ -12,22 +12,12 @@ use Rattle.q_command.specs.declared.outcome.Outcome.TheVariants as outcome
 use Rattle.q_command.specs.declared.outcome.Role.TheVariants.{In}
 use Rattle.q_run_disprove.specs.Disproofs.{proof_of}
 use Rattle.q_run_show.specs.ShownShares.{IsShareShown}
-use Rattle.q_run_show.specs.Readings.{Refuses}
 use Rattle.q_run_show.specs.Shows.{HoldsShown, IsShown, MayHoldShown, NotShown, ShowFiles}
 
 -- the formula of IN, and the text of what is read of PROOF
 pub is-shown : (j : Share) (n : ShowFiles) (binary : Bool) (disk : Disk) (F : PrenexFormula) (steps : ℕ) (text : List ℕ) → IsFileOf (bytes_at disk n.input) F →
     IsShareShown j steps text F (proof_of binary (bytes_at disk n.proof)) → IsShown j steps text n binary disk
 is-shown j n binary disk F steps text f h = record { formula = F; is_input = f; holds = h }
-
-pub not-shown : (j : Share) (o : Outcome) (n : ShowFiles) (binary : Bool) (disk : Disk) (F : PrenexFormula) → IsFileOf (bytes_at disk n.input) F →
-    Refuses j o F (proof_of binary (bytes_at disk n.proof)) → NotShown j o n binary disk
-not-shown j (outcome.Verified k) n binary disk F f h = absurd h
-not-shown j (outcome.RefusedLine k c) n binary disk F f h = (tt, record { formula = F; is_input = f; holds = h })
-not-shown j (outcome.RefusedEnd c) n binary disk F f h = (tt, (h.0, record { formula = F; is_input = f; holds = h.1 }))
-not-shown j (outcome.RefusedInput r k c) n binary disk F f h = absurd h
-not-shown j outcome.ReadFault n binary disk F f h = (tt, tt)
-not-shown j outcome.NoMemory n binary disk F f h = (tt, tt)
 
 -- IN gives no formula
 pub no-input : (j : Share) (e : InputError) (o : Outcome) (n : ShowFiles) (binary : Bool) (disk : Disk) → o ≡ input_refused In e → IsInputRefused e (bytes_at disk n.input) → NotShown j o n binary disk

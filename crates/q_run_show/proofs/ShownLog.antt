@@ -1,31 +1,30 @@
 -- What `annotate` of a refutation wrote as a whole is read back as the same steps with the same proof parts, and refutes by these.
 use Rattle.std.proofs.Common.{◌≡◌, ◌≢◌, ◌≤◌, ◌↔◌, ◌+◌, ◌==◌, ◌∙◌, refl, sym, ap, subst, arith, ℕ, Bool, true, false, if◌then◌else◌, List, [], ◌∷◌, ◌++◌, append-nil, length, Option, Some, None, unwrap_or}
 use Rattle.std.proofs.lemmas.Option.{same_Some}
-use Rattle.std.specs.List.{AllByRecursion}
-use Rattle.q_logic.specs.Prelude.{PrenexFormula, NumberedFormula, Hinted, ProofPart, ProofStep, begun, hinted_after, strip, standard}
+use Rattle.q_logic.specs.Prelude.{PrenexFormula, NumberedFormula, Hinted, ProofStep, begun, hinted_after, strip, standard}
 use Rattle.q_io.specs.Files.{Disk, HoldsBytes, bytes_at}
 use Rattle.q_log.specs.declared.error.LogError.{LogError}
 use Rattle.q_log.specs.Logs.{Parsed}
-use Rattle.q_hinted.specs.Logs.{HintedSteps, Profile, all_or_none, hinted_in, read_entries}
+use Rattle.q_hinted.specs.Logs.{Profile, all_or_none, hinted_in, read_entries}
 use Rattle.q_hinted.specs.Texts.{header_text, log_text, on_lines}
 use Rattle.q_hinted.proofs.HintedRoundTrip.{hinted-reread}
 use Rattle.q_shares.specs.Shares.{Share, judged}
 use Rattle.q_refutation.proofs.Refusing.{number-refutes}
 use Rattle.q_refutation.proofs.SharedRefuting.{refutes-shared, shared-number, whole-in}
-use Rattle.q_shown.specs.HintedRefutations.{AreHintedMadeUnlost, HintedMayBeMade, HintedRefutedIn}
+use Rattle.q_shown.specs.HintedRefutations.{AreHintedMadeUnlost, HintedRefutedIn}
 use Rattle.q_shown.proofs.HintedFront.{hinted-refuted_behind}
 use Rattle.q_shown.proofs.HintedRefuting.{number-hinted}
 use Rattle.q_command.specs.Checks.{IsFileOf}
 use Rattle.q_command.specs.Logs.{HintedEntry, hinted_of, steps_of}
 use Rattle.q_command.specs.Parts.{IsWhole}
 use Rattle.q_command.proofs.SharedSteps.{whole-count}
-use Rattle.q_run_annotate.specs.AnnotatedShares.{header_in, lines_in}
+use Rattle.q_run_annotate.specs.AnnotatedShares.{lines_in}
 use Rattle.q_run_disprove.specs.Disproofs.{DisproveFiles, IsRefutation, OfFiles, SaysOf, proof_of}
 use Rattle.q_run_disprove.specs.HintedDisproofs.{HintedSays, Tells, TellsFiles, hinted_proof, is_hinted, offence_in}
 use Rattle.q_run_disprove.specs.SharedDisproofs.{IsShareDisproof}
 use Rattle.q_run_disprove.specs.declared.disproved.Disproved.TheVariants as disproved
 use Rattle.q_run_show.specs.ShownShares.{AreHintedTaken, HintedMayBeTaken, IsShareShown, IsShownText}
-use Rattle.q_run_show.specs.Shows.{HoldsShown, ShowFiles, two_read}
+use Rattle.q_run_show.specs.Shows.{HoldsShown, ShowFiles}
 use Rattle.q_run_show.proofs.LentLemmas.{hinted-on_lines, length-strip, whole-header, whole-lines, whole-writable, written}
 
 module _ (j : Share) (w : IsWhole j) where

@@ -1,10 +1,8 @@
 -- A step that is shown or made, and what is said of one that is not.
-use Rattle.std.proofs.Common.{◌≡◌, ◌≤◌, ◌<◌, ◌+◌, ◌^◌, ◌∙◌, refl, sym, ap, subst, arith, ℕ, Bool, true, false, cond, List, [], ◌∷◌, ◌++◌, length, append-nil, slice_get, Some, None, Result, Ok, Err, IfOk}
+use Rattle.std.proofs.Common.{◌≡◌, ◌≤◌, ◌<◌, ◌+◌, ◌^◌, ◌∙◌, refl, sym, ap, subst, arith, ℕ, Bool, true, false, [], ◌++◌, length, append-nil, slice_get, Some, None, Result, Ok, Err, IfOk}
 use Rattle.q_logic.specs.declared.limits.Limits.{Limits}
-use Rattle.q_logic.specs.declared.proof_part.ProofKind.{ProofKind}
-use Rattle.q_logic.specs.declared.proof_part.ProofKind.TheVariants.{Implied}
 use Rattle.q_logic.specs.declared.steps.Kind.TheVariants.{Delete}
-use Rattle.q_logic.specs.Prelude.{PrenexFormula, NumberedFormula, HintGroup, ProofPart, ProofStep, HintedValid, add, delete, drop_literal, fresh, remove_variable, kind_of, begun, plain, hinted_after, after, standard, AreAlike, slot}
+use Rattle.q_logic.specs.Prelude.{PrenexFormula, NumberedFormula, ProofPart, ProofStep, HintedValid, add, delete, drop_literal, fresh, remove_variable, kind_of, begun, plain, hinted_after, after, standard, AreAlike, slot}
 use Rattle.q_logic.proofs.Common.{alike_swapped}
 use Rattle.q_judge.specs.declared.error.CheckError.{CheckError}
 use Rattle.q_judge.specs.declared.error.CheckError.TheVariants as check
@@ -28,7 +26,7 @@ use Rattle.q_command.specs.declared.outcome.Outcome.{Outcome}
 use Rattle.q_command.specs.declared.outcome.Outcome.TheVariants as outcome
 use Rattle.q_run_annotate.specs.AnnotatedShares.{line_if}
 use Rattle.q_run_annotate.specs.Readings.{IsUnderWay as Annotates}
-use Rattle.q_run_annotate.proofs.WritableProofs.{fits-front, numbers-fit, part-fits}
+use Rattle.q_run_annotate.proofs.WritableProofs.{fits-front, numbers-fit}
 use Rattle.q_run_disprove.specs.HintedReadings.{BringsEmpty}
 use Rattle.q_run_disprove.specs.Readings.{IsBadFor, counted}
 use Rattle.q_run_disprove.proofs.TakenSteps.{own-fewer}
@@ -167,7 +165,3 @@ unfit b other w m E n s (check.Refused c) q l h =
     subst (λ (o : Outcome). Convicts b o E (n, s)) (sym q)
     (subst (λ (x : Bool). Convicts x (outcome.RefusedLine n c) E (n, s)) (sym other) (refl, subst (λ (x : Limits). IsUnfitFor x E s (check.Refused c)) l h))
 unfit b other w m E n s check.NoMemory q l h = subst (λ (o : Outcome). Convicts b o E (n, s)) (sym q) tt
-
-pub no-fault : (n : ℕ) (e : CheckError) (w : Outcome) → w ≡ step_refused n e → w ≡ outcome.ReadFault → ⊥
-no-fault n (check.Refused c) w q r = let z : step_refused n (check.Refused c) ≡ outcome.ReadFault = sym q ∙ r in cc
-no-fault n check.NoMemory w q r = let z : step_refused n check.NoMemory ≡ outcome.ReadFault = sym q ∙ r in cc

@@ -1,12 +1,10 @@
-use Rattle.std.proofs.Common.{inl, inr, ap, sym, ◌∙◌, Err}
+use Rattle.std.proofs.Common.{inl, ap, sym, ◌∙◌, Err}
 use Rattle.std.proofs.lemmas.Option.{IfSome_then}
-use Rattle.q_io.specs.Files.{bytes_at}
-use Rattle.q_io.proofs.FaultCounts.{rose_later}
 use Rattle.q_command.proofs.FaultTurns.{at_once}
 use Rattle.q_command.proofs.FilePieces.{if_some_2, at_same, err-is}
 use Rattle.q_command.specs.Parts.{share_of}
 use Rattle.q_run_show.specs.Shows.{files_of}
-use Rattle.q_run_show.proofs.ShowOutcome.{input-fault, is-shown, no-input, not-shown}
+use Rattle.q_run_show.proofs.ShowOutcome.{input-fault, is-shown, no-input}
 use Rattle.q_run_show.proofs.files.hint_files.Goals as goal
 
 pub returns-in-Err-clause-refused : goal.returns-in-Err-clause-refused
