@@ -1,5 +1,5 @@
 -- What a caller sees of the rows: a list of places for each head, and an owner for each place.
-use Rattle.std.specs.Prelude.{◌≡◌, ℕ, if◌then◌else◌, ◌==◌, List, [], ◌∷◌, map, Option, None, Some, slice_get, slice_index_or}
+use Rattle.std.specs.Prelude.{◌≡◌, ℕ, ◌/◌, Bool, true, false, if◌then◌else◌, ◌==◌, List, [], ◌∷◌, map, Option, None, Some, slice_get, slice_index_or}
 use Rattle.q_arena.specs.declared.rings.Link.{Link}
 use Rattle.q_arena.specs.Nodes.{node_at}
 use Rattle.q_arena.specs.Rings.{walk}
@@ -7,6 +7,8 @@ use Rattle.q_arena.specs.Rings.{walk}
 pub record Chains : Type 0 where
   pub lists : List (List ℕ)
   pub owners : List ℕ
+  -- where memory is taken by the page: for each page of 1,024 numbers whether it has memory
+  pub made : List Bool
 
 abbrev pub lists_of : List Link → List Link → List (List ℕ)
 lists_of places heads = map (λ h. walk (node_at places heads) h.tag h.next) heads
@@ -39,3 +41,11 @@ HasSameLists c d = (l : ℕ) → slice_index_or d.lists l [] ≡ slice_index_or 
 -- each place has the owner that it had
 abbrev pub HasSameOwners : Chains → Chains → Type 0
 HasSameOwners c d = (p : ℕ) → slice_index_or d.owners p 0 ≡ slice_index_or c.owners p 0
+
+-- the page of the number has memory
+abbrev pub HasPage : Chains → ℕ → Type 0
+HasPage c i = slice_index_or c.made (i / 1024) false ≡ true
+
+-- no page is lost
+abbrev pub KeepsPages : Chains → Chains → Type 0
+KeepsPages c d = (i : ℕ) → HasPage c i → HasPage d i

@@ -139,6 +139,7 @@ pub struct Rings {
 }
 
 impl Model for Rings {
+    ghost use Rattle.std.specs.Prelude.{[]};
     ghost use Rattle.q_arena.specs.Chains.{Chains, lists_of, tags_of};
     ghost use Rattle.q_arena.specs.Rings.{AreSound};
 
@@ -147,6 +148,7 @@ impl Model for Rings {
     ghost view = { λ r. record {
       lists = lists_of r.places.items r.heads.items;
       owners = tags_of r.places.items;
+      made = [];
     } };
 
     ghost invariant = { λ r. AreSound r.places.items r.heads.items };
@@ -154,7 +156,7 @@ impl Model for Rings {
 
 impl Rings {
     pub fn new(alloc: Global) -> Rings
-        ensures { result ≡ record { lists = []; owners = [] } }
+        ensures { result ≡ record { lists = []; owners = []; made = [] } }
     {
         Rings {
             places: Vec::new(alloc),

@@ -1,25 +1,26 @@
 -- What holds of a kernel stays when a clause comes, goes or is shortened.
 use Rattle.std.proofs.Common.{◌≡◌, ◌≢◌, ◌⊎◌, ◌≤◌, ◌<◌, ◌+◌, ◌-◌, ◌*◌, ℕ, Bool, true, false, ◌&&◌, ◌||◌, if◌then◌else◌, [], ◌∷◌, length, set, inl, inr, arith, refl, sym, ap, ◌∙◌, subst, Option, Some, None, true≢false}
 use Rattle.std.proofs.lemmas.Option.{same_Some, none-some}
-use Rattle.std.proofs.lemmas.Bool.{cases_eq}
-use Rattle.q_logic.specs.Prelude.{Literal, IsBelow, pack, Clause, Matrix, Prefix, IsIn, ArePairs, IsProper, without, Within, copies, has_variable, occurs, Slots, slot, set_slot, live, others, formula_of}
+use Rattle.std.proofs.lemmas.Bool.{cases_eq, cases_lt}
+use Rattle.q_logic.specs.Prelude.{Literal, IsBelow, pack, Clause, Matrix, Prefix, IsIn, ArePairs, IsProper, without, Within, copies, has_variable, occurs, Slots, slot, set_slot, live, others, formula_of, is_bound, greatest}
 use Rattle.q_logic.proofs.Common.{without-IsIn, occurs_var-find, occurs_var-IsIn, AllByRecursion-IsIn, slot-alike, live-gone, without-in_order, length-set_slot, slot-below, live-slot, slot-set_other}
 use Rattle.q_logic.proofs.Booleans.{same_truth}
 use Rattle.q_logic.proofs.HintedRuns.{live-changed}
 use Rattle.q_logic.proofs.HintChains.{live-number}
 use Rattle.q_logic.proofs.FormulaParts.{each-IsIn}
 use Rattle.q_log.proofs.StepLengths.{in_front-length}
-use Rattle.q_arena.specs.Prelude.{Chains, Has, Clauses}
-use Rattle.q_occ.specs.Places.{places_of, KeepsRoom}
+use Rattle.q_arena.specs.Prelude.{Chains, Has, KeepsPages, HasSameLists, HasSameOwners, Clauses}
+use Rattle.q_occ.specs.Places.{places_of, KeepsRoom, HasBothLists}
 use Rattle.q_prefix.specs.Order.{FlatPrefix}
 use Rattle.q_kernel.specs.Uses.{Groups, AreUses, with_occurring}
 use Rattle.q_kernel.specs.Listing.{is_listed, with_clause, without_clause}
 use Rattle.q_kernel.specs.Linking.{AreLinked, HasLists}
-use Rattle.q_kernel.specs.Invariant.{IsRoomy, IsCounted, IsKernel, empty_ones}
+use Rattle.q_kernel.specs.Invariant.{MayOccur, IsRoomy, IsCounted, IsKernel, empty_ones}
 use Rattle.q_kernel.specs.Singles.{unit_ones}
 use Rattle.q_kernel.proofs.SlotLists.{set_slot-set, slot-set_same, alike-added, live-same, length-added, size-added, units-added, length-gone, size-gone, units-gone, length-replaced, size-replaced, units-replaced}
 use Rattle.q_kernel.proofs.PlaceLists.{place-occurs, clause-place, occurs-added, occurs-replaced, occurs-beside, has_variable-without}
 use Rattle.q_kernel.proofs.OccurrenceChanges.{has-listed, listed-has}
+use Rattle.q_kernel.proofs.ListUpdates.{lists-same}
 use Rattle.q_kernel.proofs.GroupChanges.{uses-same, occurring-here, occurring-other}
 
 -- The lists tell which variables occur.
@@ -73,16 +74,7 @@ proper-set P N id d p f = proper-clauses P (live N) (live (set_slot id d N)) p (
 
 -- Each variable has its lists.
 pub roomy-lists : (P : FlatPrefix) (a : Clauses) (o : Chains) (g : Groups) (most : ℕ) (C : Clause) → IsRoomy P a o g most → Within P.bounds C → HasLists o C
-roomy-lists P a o g most C r w l m =
-    let v = r.vars l.var (w l m) in
-    pack-below l most (length o.lists) v r.lists
-  where
-    pack-below : (l : Literal) (m n : ℕ) → l.var ≤ m → 2 * m + 2 ≤ n → pack l < n
-    pack-below l m n h k = go l.negative
-      where
-        go : (b : Bool) → 2 * l.var + (if b then 0 else 1) < n
-        go true = omega arith
-        go false = omega arith
+roomy-lists P a o g most C r w l m = r.lists l.var (inl (w l m)) l refl
 
 -- Which variables occur after a clause has come, gone, or lost a literal.
 module _ (g : Groups) (P : Prefix) (o q : Chains) (a b : Clauses) (x : AreLinked o a) (y : AreLinked q b) (id : ℕ) where
@@ -199,26 +191,57 @@ same-listed o q a b x y s v = listed-occurs q b y v ∙ ap (occurs v) (live-same
 
 module _ (P : FlatPrefix) (a : Clauses) (o : Chains) (g : Groups) (n s e u t most : ℕ) (k : IsKernel P a o g n s e u t most) where
   -- the same clauses at other places
-  pub kernel-moved : (b : Clauses) (q : Chains) → ((c : ℕ) → slot b.clauses c ≡ slot a.clauses c) → b.room ≤ length q.owners → AreLinked q b → length o.lists ≤ length q.lists → IsKernel P b q g n s e u t most
+  pub kernel-moved : (b : Clauses) (q : Chains) → ((c : ℕ) → slot b.clauses c ≡ slot a.clauses c) → b.room ≤ length q.owners → AreLinked q b → KeepsPages o q → IsKernel P b q g n s e u t most
   kernel-moved b q same room y lists =
       let l : live b.clauses ≡ live a.clauses = live-same b.clauses a.clauses same in
       record {
         proper = subst (λ (X : Matrix). IsProper (formula_of P.bounds X)) (sym l) k.proper;
         linked = y;
-        roomy = record { places = room; lists = omega (arith, k.roomy.lists); rows = k.roomy.rows; marks = k.roomy.marks; vars = k.roomy.vars };
+        roomy = record { places = room; lists = λ v m l q. lists (pack l) (k.roomy.lists v m l q); rows = k.roomy.rows; marks = k.roomy.marks };
         grouped = uses-same g P.bounds (is_listed o) (is_listed q) (λ v _. same-listed o q a b k.linked y same v) k.grouped;
         counted = subst (λ (X : Matrix). IsCounted X n s e u) (sym l) k.counted;
         top = k.top;
       }
 
+  -- the same formula, with more room
+  pub kernel-wider : (Q : FlatPrefix) (q : Chains) (h : Groups) (next : ℕ) → Q.bounds ≡ P.bounds → HasSameLists o q → HasSameOwners o q → KeepsRoom o q
+      → h.idle ≡ g.idle → h.existentials ≡ g.existentials → h.universals ≡ g.universals → g.room ≤ h.room → next ≤ Q.greatest
+      → ((v : ℕ) → most < v → v ≤ next → HasBothLists q v × (v < h.room)) → IsKernel Q a q h n s e u t next
+  kernel-wider Q q h next eb lists owners kept ei ee eu room marks more =
+      let y = lists-same o q a lists owners k.linked in
+      let w = uses-same g P.bounds (is_listed o) (is_listed q) (λ v _. same-listed o q a a k.linked y (λ c. refl) v) k.grouped in
+      record {
+        proper = subst (λ (R : Prefix). IsProper (formula_of R (live a.clauses))) (sym eb) k.proper;
+        linked = y;
+        roomy = record {
+          places = omega (arith, k.roomy.places, kept.places);
+          lists = λ v m. elim (known v m) [ inl x ↦ (λ l i. kept.lists (pack l) (k.roomy.lists v x l i)) | inr x ↦ (more v x.0 x.1).0 ];
+          rows = λ v m. elim (known v m) [ inl x ↦ (let r = k.roomy.rows v x in omega (arith, r, room)) | inr x ↦ (more v x.0 x.1).1 ];
+          marks = marks;
+        };
+        grouped = subst (λ (R : Prefix). AreUses h R (is_listed q)) (sym eb) (record {
+          idle = rw ei w.idle;
+          existentials = rw ee w.existentials;
+          universals = rw eu w.universals;
+          apart_idle = rw ei w.apart_idle;
+          apart_existentials = rw ee w.apart_existentials;
+          apart_universals = rw eu w.apart_universals;
+        });
+        counted = k.counted;
+        top = k.top ∙ ap greatest (sym eb);
+      }
+    where
+      known : (v : ℕ) → MayOccur Q.bounds next v → MayOccur P.bounds most v ⊎ ((most < v) × (v ≤ next))
+      known v (inl b) = inl (inl (subst (λ (R : Prefix). is_bound R v ≡ true) eb b))
+      known v (inr l) = elim (cases_lt most v) [ inl x ↦ inr (x, l) | inr x ↦ inl (inr x) ]
+
   module _ (b : Clauses) (q : Chains) (h : Groups) (id : ℕ) (y : AreLinked q b) (room : b.room ≡ a.room) (kept : KeepsRoom o q) (rows : h.room ≡ g.room) where
     changed-roomy : IsRoomy P b q h most
     changed-roomy = record {
       places = omega (arith, k.roomy.places, kept.places);
-      lists = omega (arith, k.roomy.lists, kept.lists);
-      rows = omega (arith, k.roomy.rows);
+      lists = λ v m l q. kept.lists (pack l) (k.roomy.lists v m l q);
+      rows = λ v m. (let r = k.roomy.rows v m in omega (arith, r));
       marks = k.roomy.marks;
-      vars = k.roomy.vars;
     }
 
     pub kernel-put : (C : Clause) → slot a.clauses id ≡ None → id < length a.clauses → b.clauses ≡ set a.clauses id (Some C) → ArePairs IsBelow C → Within P.bounds C

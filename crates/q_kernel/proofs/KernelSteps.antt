@@ -14,7 +14,7 @@ use Rattle.q_kernel.specs.Kernels.{Seen, slots, formula_in}
 use Rattle.q_kernel.specs.Changes.{MayStep, HasLogged, MayAdd, IsAdded, MayDelete, IsDeleted, MayDrop, IsDropped, MayShrink, IsShrunk}
 use Rattle.q_kernel.specs.Uses.{Groups, AreUses}
 use Rattle.q_kernel.specs.Listing.{is_listed}
-use Rattle.q_kernel.specs.Invariant.{IsKernel, IsPut, IsTakenOut, IsShortened}
+use Rattle.q_kernel.specs.Invariant.{MayOccur, IsKernel, IsPut, IsTakenOut, IsShortened}
 use Rattle.q_kernel.proofs.KernelRuns.{led-added, led-deleted, led-dropped, led-shrunk, after-proper}
 use Rattle.q_kernel.proofs.VariableCounts.{greatest-inserted}
 use Rattle.q_kernel.proofs.KernelInvariant.{listed-occurs}
@@ -200,13 +200,9 @@ module _ (P Q : FlatPrefix) (a : Clauses) (o : Chains) (g h : Groups) (n s e u t
     linked = k.linked;
     roomy = record {
       places = k.roomy.places;
-      lists = k.roomy.lists;
-      rows = omega (arith, k.roomy.rows);
+      lists = λ x m. k.roomy.lists x (came x m);
+      rows = λ x m. (let r = k.roomy.rows x (came x m) in omega (arith, r));
       marks = omega (arith, k.roomy.marks);
-      vars = λ x b. elim (cases_eq x v) [
-        | inl i ↦ omega arith
-        | inr d ↦ k.roomy.vars x (sym (insert-is_bound w v P.bounds x (different x d)) ∙ subst (λ (R : Prefix). is_bound R x ≡ true) eq b)
-      ];
     };
     grouped = subst (λ (R : Prefix). AreUses h R (is_listed o)) (sym eq) (uses-freshened g h P.bounds (is_listed o) v w k.grouped f.absent f.behind (listed-occurs o a k.linked v ∙ absent-free P.bounds (live a.clauses) v k.proper f.absent) ei ee eu);
     counted = k.counted;
@@ -216,6 +212,13 @@ module _ (P Q : FlatPrefix) (a : Clauses) (o : Chains) (g h : Groups) (n s e u t
       different : (x : ℕ) → x ≢ v → eqb x v ≡ false
       different x d = grind (arith, nat_tests)
 
+      came : (x : ℕ) → MayOccur Q.bounds most x → MayOccur P.bounds most x
+      came x (inr h) = inr h
+      came x (inl b) = elim (cases_eq x v) [
+        | inl i ↦ inr (omega arith)
+        | inr d ↦ inl (sym (insert-is_bound w v P.bounds x (different x d)) ∙ subst (λ (R : Prefix). is_bound R x ≡ true) eq b)
+      ]
+
   pub kernel-removed : (v : ℕ) → Valid standard (formula_of P.bounds (live a.clauses)) (remove_variable v) → Q.bounds ≡ removed_from v P.bounds
       → (Has g.idle v) → h.idle ≡ gone v g.idle → h.existentials ≡ g.existentials → h.universals ≡ g.universals → (top : ℕ) → top ≡ greatest Q.bounds → IsKernel Q a o h n s e u top most
   kernel-removed v f eq there ei ee eu top et = record {
@@ -223,15 +226,9 @@ module _ (P Q : FlatPrefix) (a : Clauses) (o : Chains) (g h : Groups) (n s e u t
     linked = k.linked;
     roomy = record {
       places = k.roomy.places;
-      lists = k.roomy.lists;
-      rows = omega (arith, k.roomy.rows);
+      lists = λ x m. k.roomy.lists x (stayed x m);
+      rows = λ x m. (let r = k.roomy.rows x (stayed x m) in omega (arith, r));
       marks = omega (arith, k.roomy.marks);
-      vars = λ x b.
-          let b' : is_bound (removed_from v P.bounds) x ≡ true = subst (λ (R : Prefix). is_bound R x ≡ true) eq b in
-          elim (cases_eq x v) [
-            | inl i ↦ absurd (true≢false (sym b' ∙ ap (is_bound (removed_from v P.bounds)) i ∙ removed-unbound v P.bounds k.proper.formula.distinct))
-            | inr d ↦ k.roomy.vars x (sym (removed-is_bound v P.bounds x (different x d)) ∙ b')
-          ];
     };
     grouped = subst (λ (R : Prefix). AreUses h R (is_listed o)) (sym eq) (uses-removed g h P.bounds (is_listed o) v k.grouped k.proper.formula.distinct there ei ee eu);
     counted = k.counted;
@@ -240,6 +237,15 @@ module _ (P Q : FlatPrefix) (a : Clauses) (o : Chains) (g h : Groups) (n s e u t
     where
       different : (x : ℕ) → x ≢ v → eqb x v ≡ false
       different x d = grind (arith, nat_tests)
+
+      stayed : (x : ℕ) → MayOccur Q.bounds most x → MayOccur P.bounds most x
+      stayed x (inr h) = inr h
+      stayed x (inl b) =
+          let b' : is_bound (removed_from v P.bounds) x ≡ true = subst (λ (R : Prefix). is_bound R x ≡ true) eq b in
+          elim (cases_eq x v) [
+            | inl i ↦ absurd (true≢false (sym b' ∙ ap (is_bound (removed_from v P.bounds)) i ∙ removed-unbound v P.bounds k.proper.formula.distinct))
+            | inr d ↦ inl (sym (removed-is_bound v P.bounds x (different x d)) ∙ b')
+          ]
 
   pub removed-idle : (v : ℕ) → Valid standard (formula_of P.bounds (live a.clauses)) (remove_variable v) → Has g.idle v
   removed-idle v f = (k.grouped.idle v).1 (f.0, listed-occurs o a k.linked v ∙ absent-occurs (live a.clauses) v f.1)

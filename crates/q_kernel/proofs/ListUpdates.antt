@@ -9,7 +9,7 @@ use Rattle.std.proofs.lemmas.Option.{same_Some, none-some}
 use Rattle.q_logic.specs.Prelude.{Literal, pack, unpack, Clause, IsIn, without}
 use Rattle.q_logic.proofs.Codes.{pack_unpack}
 use Rattle.q_logic.proofs.Common.{get_or-IsIn, without-IsIn}
-use Rattle.q_arena.specs.Prelude.{Chains, list_at, HasSameLists, HasSameOwners, Has, Clauses, clause_at, start_at, AreSameClauses}
+use Rattle.q_arena.specs.Prelude.{Chains, list_at, HasSameLists, HasSameOwners, Has, HasPage, Clauses, clause_at, start_at, AreSameClauses}
 use Rattle.q_occ.specs.Places.{places_of, no_lit, IsPlaceIn, AreExact, with_linked, IsUnlinked, IsLinked, IsReserved, KeepsRoom}
 use Rattle.q_kernel.specs.Linking.{AreLinked, AreLinkedBut, HasLists}
 
@@ -70,12 +70,6 @@ IsIn-index l [] m = elim m [ ]
 IsIn-index l (k ∷ C) (inl e) = (0, omega arith, sym e)
 IsIn-index l (k ∷ C) (inr m) = let r : (i : ℕ) × (i < length C) × (get_or C i no_lit ≡ l) = IsIn-index l C m in (suc r.0, omega (arith, r.1), r.2)
 
-pub has-list : (o : Chains) (l : Literal) (p : ℕ) → Has (places_of o l) p → pack l < length o.lists
-has-list o l p h = elim (cases_lt (pack l) (length o.lists)) [
-  | inl lt ↦ lt
-  | inr ge ↦ absurd (subst (λ (ys : List ℕ). Has ys p) (get_or_past o.lists (pack l) [] ge) h)
-]
-
 pub clause-place : (a : Clauses) (id : ℕ) (C : Clause) (l : Literal) → clause_at a id ≡ Some C → IsIn l C → (p : ℕ) × IsPlaceIn a id l p
 clause-place a id C l e m =
     let r : (k : ℕ) × (k < length C) × (get_or C k no_lit ≡ l) = IsIn-index l C m in
@@ -86,13 +80,13 @@ place-IsIn a id C l p e w =
     let s : w.clause ≡ C = same_Some w.clause C (sym w.live ∙ e) in
     subst (λ (D : Clause). IsIn l D) s (subst (λ (k : Literal). IsIn k w.clause) w.of (get_or-IsIn w.clause w.at_index no_lit w.in_range))
 
-pub has-lists : (o : Chains) (a : Clauses) (id : ℕ) (C : Clause) → AreLinked o a → clause_at a id ≡ Some C → HasLists o C
-has-lists o a id C x e l m =
+pub has-lists : (o : Chains) (a : Clauses) (id : ℕ) (C : Clause) → ((l : Literal) (p : ℕ) → Has (places_of o l) p → HasPage o (pack l)) → AreLinked o a → clause_at a id ≡ Some C → HasLists o C
+has-lists o a id C made x e l m =
     let r : (p : ℕ) × IsPlaceIn a id l p = clause-place a id C l e m in
-    has-list o l r.0 (x.all id l r.0 refl r.1)
+    made l r.0 (x.all id l r.0 refl r.1)
 
 pub lists-kept : (o q : Chains) (C : Clause) → KeepsRoom o q → HasLists o C → HasLists q C
-lists-kept o q C k h l m = let r : pack l < length o.lists = h l m in omega (arith, k.lists)
+lists-kept o q C k h l m = k.lists (pack l) (h l m)
 
 pub lists-shorter : (o : Chains) (l : Literal) (C : Clause) → HasLists o C → HasLists o (without l C)
 lists-shorter o l C h j m = h j (without-IsIn l C j m)

@@ -7,6 +7,7 @@ use Rattle.std.proofs.lemmas.Bool.{cases_eq}
 use Rattle.q_logic.specs.declared.formulas.Bound.{Bound}
 use Rattle.q_logic.specs.Prelude.{Clause, Matrix, Prefix, is_bound, Distinct, literals_in, greatest, pack, IsProper, Slots, live, formula_of, size_of, copies, occurs}
 use Rattle.q_arena.specs.Prelude.{Has, Chains, list_at, Clauses}
+use Rattle.q_occ.specs.Places.{HasBothLists, KeepsRoom}
 use Rattle.q_prefix.specs.Order.{FlatPrefix, bound_after}
 use Rattle.q_kernel.specs.Uses.{Groups, AreUses, IsGrouped}
 use Rattle.q_kernel.proofs.VariableCounts.{greatest-bound}
@@ -120,10 +121,23 @@ idle-more g n P k d b h e i ei ee eu = record {
           inr ((i.idle v).1 y)
     ]
 
+-- The variables up to one more of a prefix have their lists.
+pub bound-more : (o q : Chains) (P : Prefix) (k : ℕ) (d b : Bound) → k < length P → b ≡ get_or P k d → ((v : ℕ) → is_bound (take k P) v ≡ true → HasBothLists o v) → KeepsRoom o q → HasBothLists q b.var
+    → (v : ℕ) → is_bound (take (k + 1) P) v ≡ true → HasBothLists q v
+bound-more o q P k d b h e i kept here v x = elim (cases_eq v b.var) [
+  | inl same ↦ subst (λ (w : ℕ). HasBothLists q w) (sym same) here
+  | inr n ↦
+      let t : eqb b.var v ≡ false = grind (arith, nat_tests) in
+      let m : is_bound (take (k + 1) P) v ≡ (is_bound (take k P) v || eqb b.var v) =
+      ap (λ (j : ℕ). is_bound (take j P) v) (add-one k) ∙ next-bound P k d v h ∙ ap (λ (c : Bound). is_bound (take k P) v || eqb c.var v) (sym e) in
+      let y : is_bound (take k P) v ≡ true = grind arith in
+      (λ l j. kept.lists (pack l) (i v y l j))
+]
+
 -- A kernel without clauses.
-pub kernel-bare : (P : FlatPrefix) (a : Clauses) (o : Chains) (g : Groups) (most : ℕ) → IsProper (formula_of P.bounds []) → a.clauses ≡ [] → a.room ≡ 0 → ((h p : ℕ) → Has (list_at o h) p → ⊥) → 2 * most + 2 ≤ length o.lists
-    → most < g.room → most ≤ P.greatest → AreUses g P.bounds (λ v. false) → most ≡ greatest P.bounds → IsKernel P a o g 0 0 0 0 most most
-kernel-bare P a o g most proper clauses room empty lists rows marks uses top =
+pub kernel-bare : (P : FlatPrefix) (a : Clauses) (o : Chains) (g : Groups) (top : ℕ) → IsProper (formula_of P.bounds []) → a.clauses ≡ [] → a.room ≡ 0 → ((h p : ℕ) → Has (list_at o h) p → ⊥) → ((v : ℕ) → is_bound P.bounds v ≡ true → HasBothLists o v) → HasBothLists o 0
+    → top < g.room → AreUses g P.bounds (λ v. false) → top ≡ greatest P.bounds → IsKernel P a o g 0 0 0 0 top 0
+kernel-bare P a o g top proper clauses room empty lists zero-lists rows uses is =
     let none : live a.clauses ≡ [] = ap live clauses in
     let linked : AreLinked o a = record {
       listed = λ l p h. absurd (empty (pack l) p h);
@@ -132,10 +146,15 @@ kernel-bare P a o g most proper clauses room empty lists rows marks uses top =
     record {
       proper = subst (λ (X : Matrix). IsProper (formula_of P.bounds X)) (sym none) proper;
       linked = linked;
-      roomy = record { places = omega arith; lists = lists; rows = rows; marks = marks; vars = λ v b. let l = is_bound-greatest P.bounds v b in omega arith };
+      roomy = record {
+        places = omega arith;
+        lists = λ v m. elim m [ inl b ↦ lists v b | inr z ↦ (let e : v ≡ 0 = omega arith in subst (λ (x : ℕ). HasBothLists o x) (sym e) zero-lists) ];
+        rows = λ v m. elim m [ inl b ↦ (let l = is_bound-greatest P.bounds v b in omega arith) | inr z ↦ omega arith ];
+        marks = omega arith;
+      };
       grouped = uses-same g P.bounds (λ v. false) (is_listed o) (λ v b. listed-occurs o a linked v ∙ ap (occurs v) none) uses;
       counted = record { count = ap length (sym none); size = ap size_of (sym none); empties = ap (copies []) (sym none); units = ap units_in (sym none) };
-      top = top;
+      top = is;
     }
 
 -- A clause at a place.

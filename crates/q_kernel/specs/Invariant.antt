@@ -1,7 +1,8 @@
 -- What holds of the parts of a kernel.
-use Rattle.std.specs.Prelude.{◌≡◌, ◌≤◌, ◌<◌, ◌+◌, ◌*◌, ℕ, true, [], ◌∷◌, length, Some, None}
-use Rattle.q_logic.specs.Prelude.{Clause, Matrix, Literal, without, is_bound, IsProper, slot, set_slot, live, formula_of, size_of, greatest, copies}
+use Rattle.std.specs.Prelude.{◌≡◌, ◌⊎◌, ◌≤◌, ◌<◌, ◌+◌, ◌*◌, ℕ, true, [], ◌∷◌, length, Some, None}
+use Rattle.q_logic.specs.Prelude.{Clause, Matrix, Prefix, Literal, without, is_bound, IsProper, slot, set_slot, live, formula_of, size_of, greatest, copies}
 use Rattle.q_arena.specs.Prelude.{Chains, Clauses}
+use Rattle.q_occ.specs.Places.{HasBothLists}
 use Rattle.q_prefix.specs.Order.{FlatPrefix}
 use Rattle.q_kernel.specs.Uses.{Groups, AreUses}
 use Rattle.q_kernel.specs.Listing.{is_listed}
@@ -10,13 +11,16 @@ use Rattle.q_kernel.specs.Linking.{AreLinked}
 use Rattle.q_kernel.specs.Kernels.{Seen, slots, KeepsRoom, HasSweepBytes}
 use Rattle.q_kernel.specs.Changes.{IsLed}
 
--- there are places for all words, and lists and marks for all variables up to the greatest that may come
+-- a variable of the prefix, or one that may come
+abbrev pub MayOccur : Prefix → ℕ → ℕ → Type 0
+MayOccur P most v = (is_bound P v ≡ true) ⊎ (v ≤ most)
+
+-- there are places for all words, and lists and marks for all variables of the prefix and for those that may come
 pub record IsRoomy (P : FlatPrefix) (a : Clauses) (o : Chains) (g : Groups) (most : ℕ) : Type 0 where
   pub places : a.room ≤ length o.owners
-  pub lists : 2 * most + 2 ≤ length o.lists
-  pub rows : most < g.room
+  pub lists : (v : ℕ) → MayOccur P.bounds most v → HasBothLists o v
+  pub rows : (v : ℕ) → MayOccur P.bounds most v → v < g.room
   pub marks : most ≤ P.greatest
-  pub vars : (v : ℕ) → is_bound P.bounds v ≡ true → v ≤ most
 
 -- the number of clauses, the number of literals and clauses, and the numbers of empty clauses and of unit clauses
 pub record IsCounted (X : Matrix) (n s e u : ℕ) : Type 0 where

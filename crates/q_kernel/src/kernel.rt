@@ -18,7 +18,8 @@ use crate::journal::{Journal, Touch};
 use crate::links;
 use crate::need::Need;
 use crate::parts::{
-    bounds_of, empty_ones, first_of, idle_uses, room_for, top_of, unit_ones, words_of,
+    bind_between, bound_lists, bounds_of, empty_ones, first_of, idle_uses, room_for, top_of,
+    unit_ones, words_of,
 };
 use crate::pending::Pending;
 use crate::uses::Uses;
@@ -114,9 +115,8 @@ impl Kernel {
         ensures text { IfOk result (λ k. k.text ≡ []) }
     {
         let greatest = greatest_of(bounds);
-        let mut prefix = Prefix::new(alloc, bounds)?;
-        prefix.reserve(0, greatest)?;
-        let occ = Occ::new(alloc, greatest)?;
+        let prefix = Prefix::new(alloc, bounds)?;
+        let occ = bound_lists(alloc, bounds)?;
         let uses = idle_uses(alloc, bounds, greatest)?;
         Ok(Kernel {
             prefix,
@@ -130,7 +130,7 @@ impl Kernel {
             units: 0,
             size: 0,
             top: greatest,
-            greatest,
+            greatest: 0,
         })
     }
 
@@ -324,7 +324,7 @@ impl Kernel {
     {
         self.make_room(need.words);
         let greatest = self.greatest.max(need.greatest);
-        self.reserve_clauses(need.words, need.ids, greatest)?;
+        self.reserve_clauses(need.words, need.ids)?;
         self.reserve_vars(need.vars, greatest)?;
         self.journal.reserve(self.size.saturating_add(need.words));
         self.pending.reserve(need.log_bytes)?;
@@ -341,31 +341,30 @@ impl Kernel {
         }
     }
 
-    // Reserves words and ids, and lists for variables up to the greatest.
-    fn reserve_clauses(&mut self, words: usize, ids: usize, greatest: u32) -> Result<(), NoMemory>
+    // Reserves words and ids.
+    fn reserve_clauses(&mut self, words: usize, ids: usize) -> Result<(), NoMemory>
         requires { live_in self.old.arena.clauses + ids ≤ 4294967294 }
         ensures view { SameView self.old self.new }
         ensures kept { KeepsSpare self.old self.new }
         ensures words { OnOk result (words ≤ self.new.arena.spare_words) }
         ensures ids { OnOk result (ids ≤ self.new.arena.spare_ids) }
-        ensures lists { OnOk result (2 * greatest + 2 ≤ length self.new.lists.lists) }
         ensures most { self.new.greatest ≡ self.old.greatest }
     {
         let room = room_for(&self.arena, words)?;
-        self.occ.reserve(room, greatest)?;
+        self.occ.reserve(room)?;
         self.arena.reserve(words, ids)?;
         Ok(())
     }
 
-    // Reserves variables, for which there are lists.
+    // Reserves variables: of those up to the greatest each may come.
     fn reserve_vars(&mut self, vars: usize, greatest: u32) -> Result<(), NoMemory>
         requires low { self.old.greatest ≤ greatest }
-        requires lists { 2 * greatest + 2 ≤ length self.old.lists.lists }
         ensures view { SameView self.old self.new }
         ensures kept { KeepsSpare self.old self.new }
         ensures vars { OnOk result (vars ≤ self.new.spare_vars) }
         ensures greatest { OnOk result (self.new.greatest ≡ greatest) }
     {
+        bind_between(&mut self.occ, self.greatest, greatest)?;
         self.uses.reserve(greatest)?;
         self.prefix.reserve(vars, greatest)?;
         self.greatest = greatest;

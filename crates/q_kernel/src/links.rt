@@ -81,6 +81,7 @@ pub(crate) fn shorten(arena: &mut Arena, occ: &mut Occ, id: ClauseId, lit: Lit)
     ensures linked { AreLinked occ.new arena.new }
     ensures kept { KeepsRoom occ.old occ.new }
 {
+    occ.distinct();
     unlink(arena, occ, id);
     arena.drop_lit(id, lit);
     link(arena, occ, id);
@@ -100,6 +101,7 @@ fn slide(arena: &mut Arena, occ: &mut Occ, id: ClauseId)
     ensures linked { AreLinked occ.new arena.new }
     ensures kept { KeepsRoom occ.old occ.new }
 {
+    occ.distinct();
     unlink(arena, occ, id);
     arena.slide(id);
     link(arena, occ, id);

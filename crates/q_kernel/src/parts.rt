@@ -1,7 +1,9 @@
 // What a kernel is made of when it begins: numbers of the formula that its tables need before the first clause is put in, and the
 // counts that are kept with each change.
-ghost use Rattle.std.specs.Prelude.{◌≡◌, ◌≤◌, ◌<◌, ◌+◌, ◌-◌, ℕ, [], IfOk, length, true, false};
+ghost use Rattle.std.specs.Prelude.{◌≡◌, ◌≤◌, ◌<◌, ◌+◌, ◌-◌, ℕ, [], IfOk, OnOk, length, true, false};
 ghost use Rattle.q_logic.specs.Prelude.{Clause, is_bound, Distinct, first_of, greatest, literals_in};
+ghost use Rattle.q_arena.specs.Prelude.{Has, list_at, HasSameLists, HasSameOwners};
+ghost use Rattle.q_occ.specs.Places.{HasBothLists, KeepsRoom};
 ghost use Rattle.q_kernel.specs.Uses.{AreUses};
 ghost use Rattle.q_kernel.specs.Invariant.{empty_ones};
 ghost use Rattle.q_kernel.specs.Singles.{unit_ones};
@@ -9,6 +11,7 @@ ghost use Rattle.q_kernel.specs.Singles.{unit_ones};
 use crate::uses::Uses;
 use q_arena::Arena;
 use q_logic::{Bound, Formula, Lit, NoMemory};
+use q_occ::Occ;
 use q_prefix::Prefix;
 use std::alloc::Global;
 
@@ -46,6 +49,33 @@ pub(crate) fn room_for(arena: &Arena, words: usize) -> Result<usize, NoMemory>
         return Ok(arena.room());
     }
     arena.room().checked_add(words - spare).ok_or(NoMemory)
+}
+
+/// Lists for the literals of a prefix, and for those of the variable 0.
+pub(crate) fn bound_lists(alloc: Global, bounds: &[Bound]) -> Result<Occ, NoMemory>
+    ensures empty { IfOk result (λ o. (h p : ℕ) → Has (list_at o h) p → ⊥) }
+    ensures bound { IfOk result (λ o. (v : ℕ) → is_bound bounds.now v ≡ true → HasBothLists o v) }
+    ensures zero { IfOk result (λ o. HasBothLists o 0) }
+{
+    let mut occ = Occ::new(alloc);
+    occ.bind(0)?;
+    for bound in bounds {
+        occ.bind(bound.var)?;
+    }
+    Ok(occ)
+}
+
+/// Lists for the literals of the variables from one on, which has them, up to another one.
+pub(crate) fn bind_between(occ: &mut Occ, from: u32, to: u32) -> Result<(), NoMemory>
+    ensures bound { OnOk result ((v : ℕ) → from < v → v ≤ to → HasBothLists occ.new v) }
+    ensures kept { KeepsRoom occ.old occ.new }
+    ensures lists { HasSameLists occ.old occ.new }
+    ensures owners { HasSameOwners occ.old occ.new }
+{
+    for var in from..to {
+        occ.bind(var + 1)?;
+    }
+    Ok(())
 }
 
 /// All variables as idle ones.

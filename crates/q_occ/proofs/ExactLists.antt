@@ -5,7 +5,7 @@ use Rattle.std.proofs.lemmas.Bool.Decides.{nat_tests}
 use Rattle.std.proofs.lemmas.Option.{same_Some}
 use Rattle.q_logic.specs.Prelude.{Literal, pack}
 use Rattle.q_logic.proofs.Common.{pack-same}
-use Rattle.q_arena.specs.Prelude.{Has, Chains, list_at, Clauses, clause_at, start_at}
+use Rattle.q_arena.specs.Prelude.{Has, HasPage, Chains, list_at, Clauses, clause_at, start_at}
 use Rattle.q_occ.specs.Places.{no_lit, IsPlaceUpto, IsLinkedUpto, IsUnlinkedUpto, AreOwnedUpto, IsPlaceIn, AreExact, with_linked, IsUnlinked, IsLinked, IsReserved, IsLinking, IsUnlinking}
 
 with-here : (id : ℕ) (b : Bool) (linked : ℕ → Bool) (i : ℕ) → i ≡ id → with_linked id b linked i ≡ b
@@ -51,8 +51,8 @@ module _ (a : Clauses) (id : ℕ) (lits : List Literal) (start : ℕ) (e : claus
       let q : start + (p - start) ≡ p = omega arith in
       subst (IsPlaceIn a id (get_or lits (p - start) no_lit)) q (at-place (p - start) n)
 
-  pub heads-reserved : (o : Chains) → IsReserved o a id → (k : ℕ) → k < length lits → pack (get_or lits k no_lit) < length o.lists
-  heads-reserved o r k h = r.vars (get_or lits k no_lit) (start + k) (at-place k h)
+  pub pages-reserved : (o : Chains) → IsReserved o a id → (k : ℕ) → k < length lits → HasPage o (pack (get_or lits k no_lit))
+  pages-reserved o r k h = r.vars (get_or lits k no_lit) (start + k) (at-place k h)
 
   pub room-reserved : (o : Chains) → IsReserved o a id → (k : ℕ) → k < length lits → start + k < length o.owners
   room-reserved o r k h = r.places (get_or lits k no_lit) (start + k) (at-place k h)

@@ -11,10 +11,10 @@ use Rattle.q_occ.specs.Places.{no_lit, IsPlaceUpto, IsLinkedUpto, IsUnlinkedUpto
 pub linked-none : (c : Chains) (lits : List Literal) (start : ℕ) → IsLinkedUpto c c lits start 0
 linked-none c lits start l p = (λ h. inl h, λ h. elim h [ inl a ↦ a | inr b ↦ absurd (let r : b.at_index < 0 = b.in_range in omega arith) ])
 
-pub linked-more : (old now new : Chains) (lits : List Literal) (start k h : ℕ) → IsLinkedUpto old now lits start k → h ≡ pack (get_or lits k no_lit) → h < length now.lists → new.lists ≡ set now.lists h ((start + k) ∷ list_at now h) → IsLinkedUpto old new lits start (k + 1)
+pub linked-more : (old now new : Chains) (lits : List Literal) (start k h : ℕ) → IsLinkedUpto old now lits start k → h ≡ pack (get_or lits k no_lit) → list_at new h ≡ (start + k) ∷ list_at now h → new.lists ≡ set now.lists h ((start + k) ∷ list_at now h) → IsLinkedUpto old new lits start (k + 1)
 linked-more old now new lits start k h before eh hh e l p =
     let ys : List ℕ = (start + k) ∷ list_at now h in
-    let here : l ≡ h → list_at new l ≡ ys = λ q. ap (λ (xs : List (List ℕ)). get_or xs l []) e ∙ subst (λ (i : ℕ). get_or (set now.lists h ys) i [] ≡ ys) (sym q) (get_or-set_same now.lists h ys [] hh) in
+    let here : l ≡ h → list_at new l ≡ ys = λ q. ap (λ (i : ℕ). list_at new i) q ∙ hh in
     let there : l ≢ h → list_at new l ≡ list_at now l = λ n. ap (λ (xs : List (List ℕ)). get_or xs l []) e ∙ get_or-set_other now.lists h l ys [] n in
     let wider : IsPlaceUpto lits start k l p → IsPlaceUpto lits start (k + 1) l p = λ b. record { at_index = b.at_index; in_range = (let r : b.at_index < k = b.in_range in omega arith); is = b.is; of = b.of } in
     let from : Has (list_at now l) p → Has (list_at old l) p ⊎ IsPlaceUpto lits start (k + 1) l p = λ g. elim ((before l p).0 g) [

@@ -1,7 +1,7 @@
 -- The places of literals in the words of an arena, as lists.
 use Rattle.std.specs.Prelude.{◌≡◌, ◌⊎◌, ◌↔◌, ℕ, ◌+◌, ◌≤◌, ◌<◌, Bool, true, false, if◌then◌else◌, ◌==◌, List, length, slice_index_or, Some}
 use Rattle.q_logic.specs.Prelude.{Literal, pack}
-use Rattle.q_arena.specs.Prelude.{Chains, list_at, Has, Clauses, clause_at, start_at}
+use Rattle.q_arena.specs.Prelude.{Chains, list_at, Has, HasPage, KeepsPages, Clauses, clause_at, start_at}
 
 abbrev pub no_lit : Literal
 no_lit = record { var = 0; negative = false }
@@ -60,7 +60,7 @@ IsLinked o a id = (l : Literal) (p : ℕ) → IsPlaceIn a id l p → Has (places
 -- the places and the variables of the clause are reserved
 pub record IsReserved (o : Chains) (a : Clauses) (id : ℕ) : Type 0 where
   pub places : (l : Literal) (p : ℕ) → IsPlaceIn a id l p → p < length o.owners
-  pub vars : (l : Literal) (p : ℕ) → IsPlaceIn a id l p → pack l < length o.lists
+  pub vars : (l : Literal) (p : ℕ) → IsPlaceIn a id l p → HasPage o (pack l)
 
 -- the places of the clause have come into the lists, with their owner, and nothing else is changed
 pub record IsLinking (old new : Chains) (a : Clauses) (id : ℕ) : Type 0 where
@@ -76,4 +76,8 @@ pub record IsUnlinking (old new : Chains) (a : Clauses) (id : ℕ) : Type 0 wher
 -- as much is reserved
 pub record KeepsRoom (old new : Chains) : Type 0 where
   pub places : length old.owners ≤ length new.owners
-  pub lists : length old.lists ≤ length new.lists
+  pub lists : KeepsPages old new
+
+-- both literals of a variable have lists
+abbrev pub HasBothLists : Chains → ℕ → Type 0
+HasBothLists o v = (l : Literal) → l.var ≡ v → HasPage o (pack l)

@@ -2,6 +2,7 @@
 #![tactic(auto)]
 
 mod linking;
+mod lists;
 mod occ;
 
 pub use occ::Occ;

@@ -1,11 +1,12 @@
 // The lists of occurrences: for each literal the places where clauses hold it, as rings of `q_arena`. A place knows its clause.
-ghost use Rattle.std.specs.Prelude.{◌≡◌, ◌≤◌, ◌<◌, ◌+◌, ◌*◌, ◌⊎◌, ℕ, Bool, true, false, length, slice_get, slice_index_or, OnOk, IfOk, None, Some};
-ghost use Rattle.q_logic.specs.Prelude.{Literal};
-ghost use Rattle.q_arena.specs.Prelude.{Has, AreApart, list_at, following, HasSameLists, HasSameOwners, IsLive};
-ghost use Rattle.q_occ.specs.Places.{places_of, AreExact, with_linked, IsLinked, IsUnlinked, IsReserved, IsLinking, IsUnlinking, KeepsRoom};
+ghost use Rattle.std.specs.Prelude.{◌≡◌, ◌≤◌, ◌<◌, ◌+◌, ◌*◌, ◌⊎◌, ℕ, Bool, true, false, length, slice_get, slice_index_or, OnOk, None, Some};
+ghost use Rattle.q_logic.specs.Prelude.{Literal, pack};
+ghost use Rattle.q_arena.specs.Prelude.{Has, AreApart, list_at, following, HasSameLists, HasSameOwners, IsLive, HasPage};
+ghost use Rattle.q_occ.specs.Places.{places_of, AreExact, with_linked, IsLinked, IsUnlinked, IsReserved, IsLinking, IsUnlinking, KeepsRoom, HasBothLists};
 
 use crate::linking::{link_all, unlink_all};
-use q_arena::{Arena, ClauseId, Rings};
+use crate::lists::Lists;
+use q_arena::{Arena, ClauseId};
 use q_logic::{Lit, NoMemory};
 use std::alloc::Global;
 use std::marker::Model;
@@ -13,7 +14,7 @@ use std::marker::Model;
 /// For each literal a doubly linked list of its places in the clauses that are linked, in any order.
 #[derive(Drop)]
 pub struct Occ {
-    rings: Rings,
+    lists: Lists,
 }
 
 impl Model for Occ {
@@ -21,28 +22,36 @@ impl Model for Occ {
 
     ghost Value = { Chains };
 
-    ghost view = { λ o. o.rings };
+    ghost view = { λ o. o.lists };
 }
 
 impl Occ {
-    pub fn new(alloc: Global, vars: u32) -> Result<Occ, NoMemory>
-        ensures empty { IfOk result (λ o. (h p : ℕ) → Has (list_at o h) p → ⊥) }
-        ensures vars { IfOk result (λ o. 2 * vars + 2 ≤ length o.lists) }
+    pub fn new(alloc: Global) -> Occ
+        ensures { (h p : ℕ) → Has (list_at result h) p → ⊥ }
     {
-        let mut rings = Rings::new(alloc);
-        rings.reserve(0, 2 * vars as usize + 2)?;
-        Ok(Occ { rings })
+        Occ {
+            lists: Lists::new(alloc),
+        }
     }
 
-    /// Room for places below `words` and for variables up to `vars`.
-    pub fn reserve(&mut self, words: usize, vars: u32) -> Result<(), NoMemory>
+    /// Room for places below `words`.
+    pub fn reserve(&mut self, words: usize) -> Result<(), NoMemory>
         ensures words { OnOk result (words ≤ length self.new.owners) }
-        ensures vars { OnOk result (2 * vars + 2 ≤ length self.new.lists) }
         ensures kept { KeepsRoom self.old self.new }
         ensures lists { HasSameLists self.old self.new }
         ensures owners { HasSameOwners self.old self.new }
     {
-        self.rings.reserve(words, 2 * vars as usize + 2)
+        self.lists.reserve(words)
+    }
+
+    /// Room for the lists of a variable's literals.
+    pub fn bind(&mut self, var: u32) -> Result<(), NoMemory>
+        ensures bound { OnOk result (HasBothLists self.new var) }
+        ensures kept { KeepsRoom self.old self.new }
+        ensures lists { HasSameLists self.old self.new }
+        ensures owners { HasSameOwners self.old self.new }
+    {
+        self.lists.make(2 * var as usize)
     }
 
     /// Each place is in one list at most, and once, and places are small numbers.
@@ -51,8 +60,10 @@ impl Occ {
         ensures one { (l m : Literal) (p : ℕ) → Has (places_of self.now l) p
             → Has (places_of self.now m) p → l ≡ m }
         ensures few { length self.now.owners < 4294967296 }
+        ensures made { (l : Literal) (p : ℕ) → Has (places_of self.now l) p
+            → HasPage self.now (pack l) }
     {
-        self.rings.distinct();
+        self.lists.distinct();
     }
 
     /// Puts the places of a clause into the lists.
@@ -66,7 +77,7 @@ impl Occ {
             → AreExact self.new arena.now (with_linked id true linked) }
     {
         arena.apart();
-        link_all(&mut self.rings, arena.start(id), arena.lits(id), id);
+        link_all(&mut self.lists, arena.start(id), arena.lits(id), id);
     }
 
     /// Takes the places of a clause out of the lists.
@@ -79,7 +90,7 @@ impl Occ {
             → AreExact self.new arena.now (with_linked id false linked) }
     {
         arena.apart();
-        unlink_all(&mut self.rings, arena.start(id), arena.lits(id));
+        unlink_all(&mut self.lists, arena.start(id), arena.lits(id));
     }
 
     /// A place of the literal.
@@ -87,10 +98,7 @@ impl Occ {
         ensures first { result ≡ slice_get (places_of self.now lit) 0 }
         ensures there { (p : ℕ) → result ≡ Some p → Has (places_of self.now lit) p }
     {
-        if lit.index() >= self.rings.heads() {
-            return None;
-        }
-        self.rings.first(lit.index())
+        self.lists.first(lit.index())
     }
 
     /// The place after one of a list.
@@ -101,7 +109,7 @@ impl Occ {
         ensures there { (l : Literal) (p : ℕ) → Has (places_of self.now l) place → result ≡ Some p
             → Has (places_of self.now l) p }
     {
-        self.rings.next(place)
+        self.lists.next(place)
     }
 
     /// The clause that has a place.
@@ -109,17 +117,14 @@ impl Occ {
         requires { (l : Literal) × Has (places_of self.now l) place }
         ensures { result ≡ slice_index_or self.now.owners place 0 }
     {
-        self.rings.distinct();
-        self.rings.owner(place)
+        self.lists.distinct();
+        self.lists.owner(place)
     }
 
     /// How many places of the literal there are.
     pub fn count(&self, lit: Lit) -> u32
         ensures { result ≡ length (places_of self.now lit) }
     {
-        if lit.index() >= self.rings.heads() {
-            return 0;
-        }
-        self.rings.count(lit.index())
+        self.lists.count(lit.index())
     }
 }

@@ -27,6 +27,6 @@ link-requires-clause-lists c = λ E f.
     let e = c.requires.live.1 in
     let D : Clause = without c.args.lit C in
     let there = clause-set a c.drop_lit.new.self c.args.id (Some D) (clause-within a c.args.id C e) (c.drop_lit.ensures.clauses C e) in
-    let h = has-lists c.args.occ.now a c.args.id C c.requires.linked e in
+    let h = has-lists c.args.occ.now a c.args.id C c.distinct.ensures.made c.requires.linked e in
     let k = lists-shorter c.unlink.new.occ c.args.lit C (lists-kept c.args.occ.now c.unlink.new.occ C c.unlink.ensures.kept h) in
     subst (λ (X : Clause). HasLists c.unlink.new.occ X) (same_Some D E (sym there ∙ f)) k

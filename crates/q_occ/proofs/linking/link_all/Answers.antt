@@ -9,9 +9,9 @@ use Rattle.q_occ.proofs.linking.link_all.Goals as goal
 
 pub loop-k-init : goal.loop-k-init
 loop-k-init c = record {
-  linked = linked-none c.args.rings.now c.args.lits.now c.args.start;
-  owned = owned-none c.args.rings.now.owners c.args.start c.args.id;
-  heads = refl;
+  linked = linked-none c.args.lists.now c.args.lits.now c.args.start;
+  owned = owned-none c.args.lists.now.owners c.args.start c.args.id;
+  made = refl;
   room = refl;
 }
 
@@ -22,23 +22,21 @@ push_front-requires-clause-fresh c = λ m h.
       | inr b ↦ absurd (let e : c.args.start + c.loop-k.k ≡ c.args.start + b.at_index = b.is in let r : b.at_index < c.loop-k.k = b.in_range in omega (arith, e, r))
     ]
 
-pub push_front-requires-clause-head : goal.push_front-requires-clause-head
-push_front-requires-clause-head c =
+pub push_front-requires-clause-made : goal.push_front-requires-clause-made
+push_front-requires-clause-made c =
     let d : c.index-lits-k.result ≡ get_or c.args.lits.now c.loop-k.k no_lit = c.index-lits-k.is ∙ get_or_default c.args.lits.now c.loop-k.k c.index-lits-k.result no_lit c.loop-k-test.true in
     let e : c.index.result ≡ pack (get_or c.args.lits.now c.loop-k.k no_lit) = c.index.ensures ∙ ap pack d in
-    let h = c.requires.heads c.loop-k.k c.loop-k-test.true in
-    rw e (omega (arith, h, c.loop-k.invariant.heads))
+    let h = c.requires.pages c.loop-k.k c.loop-k-test.true in
+    rw (e, c.loop-k.invariant.made) h
 
 pub loop-k-preserved : goal.loop-k-preserved
 loop-k-preserved c =
     let d : c.index-lits-k.result ≡ get_or c.args.lits.now c.loop-k.k no_lit = c.index-lits-k.is ∙ get_or_default c.args.lits.now c.loop-k.k c.index-lits-k.result no_lit c.loop-k-test.true in
     let e : c.index.result ≡ pack (get_or c.args.lits.now c.loop-k.k no_lit) = c.index.ensures ∙ ap pack d in
-    let h = c.requires.heads c.loop-k.k c.loop-k-test.true in
-    let hh : c.index.result < length c.loop-k.rings.lists = rw e (omega (arith, h, c.loop-k.invariant.heads)) in
-    let room : c.args.start + c.loop-k.k < length c.loop-k.rings.owners = let r = c.requires.room c.loop-k.k c.loop-k-test.true in omega (arith, r, c.loop-k.invariant.room) in
+    let room : c.args.start + c.loop-k.k < length c.loop-k.lists.owners = let r = c.requires.room c.loop-k.k c.loop-k-test.true in omega (arith, r, c.loop-k.invariant.room) in
     record {
-      linked = linked-more c.args.rings.now c.loop-k.rings c.push_front.new.self c.args.lits.now c.args.start c.loop-k.k c.index.result c.loop-k.invariant.linked e hh c.push_front.ensures.lists;
-      owned = owned-more c.args.rings.now.owners c.loop-k.rings.owners c.push_front.new.self.owners c.args.start c.loop-k.k c.args.id c.loop-k.invariant.owned room c.push_front.ensures.owners;
-      heads = ap length c.push_front.ensures.lists ∙ length-set' c.loop-k.rings.lists c.index.result ((c.args.start + c.loop-k.k) ∷ list_at c.loop-k.rings c.index.result) ∙ c.loop-k.invariant.heads;
-      room = ap length c.push_front.ensures.owners ∙ length-set' c.loop-k.rings.owners (c.args.start + c.loop-k.k) c.args.id ∙ c.loop-k.invariant.room;
+      linked = linked-more c.args.lists.now c.loop-k.lists c.push_front.new.self c.args.lits.now c.args.start c.loop-k.k c.index.result c.loop-k.invariant.linked e c.push_front.ensures.there c.push_front.ensures.lists;
+      owned = owned-more c.args.lists.now.owners c.loop-k.lists.owners c.push_front.new.self.owners c.args.start c.loop-k.k c.args.id c.loop-k.invariant.owned room c.push_front.ensures.owners;
+      made = c.push_front.ensures.made ∙ c.loop-k.invariant.made;
+      room = ap length c.push_front.ensures.owners ∙ length-set' c.loop-k.lists.owners (c.args.start + c.loop-k.k) c.args.id ∙ c.loop-k.invariant.room;
     }

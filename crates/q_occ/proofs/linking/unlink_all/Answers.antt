@@ -9,9 +9,9 @@ use Rattle.q_occ.proofs.linking.unlink_all.Goals as goal
 
 pub loop-k-init : goal.loop-k-init
 loop-k-init c = record {
-  unlinked = unlinked-none c.args.rings.now c.args.start;
+  unlinked = unlinked-none c.args.lists.now c.args.start;
   owners = refl;
-  heads = refl;
+  made = refl;
 }
 
 pub remove-requires : goal.remove-requires
@@ -26,9 +26,9 @@ loop-k-preserved c =
     let d : c.index-lits-k.result ≡ get_or c.args.lits.now c.loop-k.k no_lit = c.index-lits-k.is ∙ get_or_default c.args.lits.now c.loop-k.k c.index-lits-k.result no_lit c.loop-k-test.true in
     let e : c.index.result ≡ pack (get_or c.args.lits.now c.loop-k.k no_lit) = c.index.ensures ∙ ap pack d in
     let was = c.requires.linked c.loop-k.k c.loop-k-test.true in
-    let there : Has (list_at c.loop-k.rings c.index.result) (c.args.start + c.loop-k.k) = rw e ((c.loop-k.invariant.unlinked (pack (get_or c.args.lits.now c.loop-k.k no_lit)) (c.args.start + c.loop-k.k)).1 (was, inr (omega arith))) in
+    let there : Has (list_at c.loop-k.lists c.index.result) (c.args.start + c.loop-k.k) = rw e ((c.loop-k.invariant.unlinked (pack (get_or c.args.lits.now c.loop-k.k no_lit)) (c.args.start + c.loop-k.k)).1 (was, inr (omega arith))) in
     record {
-      unlinked = unlinked-more c.args.rings.now c.loop-k.rings c.remove.new.self c.args.start c.loop-k.k c.index.result c.loop-k.invariant.unlinked there c.distinct.ensures.apart c.distinct.ensures.one c.remove.ensures.lists;
+      unlinked = unlinked-more c.args.lists.now c.loop-k.lists c.remove.new.self c.args.start c.loop-k.k c.index.result c.loop-k.invariant.unlinked there c.distinct.ensures.apart c.distinct.ensures.one c.remove.ensures.lists;
       owners = c.remove.ensures.owners ∙ c.loop-k.invariant.owners;
-      heads = ap length c.remove.ensures.lists ∙ length-set' c.loop-k.rings.lists c.index.result (without (c.args.start + c.loop-k.k) (list_at c.loop-k.rings c.index.result)) ∙ c.loop-k.invariant.heads;
+      made = c.remove.ensures.made ∙ c.loop-k.invariant.made;
     }
