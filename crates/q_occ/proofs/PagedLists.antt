@@ -1,13 +1,12 @@
 -- Lists whose heads stand in pages, under a change of the rings or of the pages.
-use Rattle.std.proofs.Common.{◌≡◌, ◌≢◌, ◌⊎◌, ℕ, zero, suc, ◌+◌, ◌*◌, ◌/◌, ◌%◌, ◌<◌, ◌≤◌, true, false, List, [], ◌∷◌, length, map, set, get_or, refl, sym, ◌∙◌, ap, subst, inl, inr, arith}
-use Rattle.std.specs.Prelude.{nat_lt, nat_le, ◌&&◌}
+use Rattle.std.proofs.Common.{◌≡◌, ◌≢◌, ◌⊎◌, ℕ, zero, suc, ◌+◌, ◌*◌, ◌/◌, ◌%◌, ◌<◌, ◌≤◌, true, false, List, [], ◌∷◌, length, set, get_or, refl, sym, ◌∙◌, ap, subst, inl, inr, arith}
 use Rattle.std.proofs.lemmas.Bool.{cases_lt, cases_eq}
 use Rattle.std.proofs.lemmas.Bool.Decides.{nat_tests}
 use Rattle.std.proofs.lemmas.List.{length-set, ext_get_or, get_or-set_same, get_or-set_other, get_or_past}
 use Rattle.std.proofs.Math.ListN.{get_or-map}
-use Rattle.q_arena.specs.Prelude.{Chains, Has, AreApart, list_at, HasPage, HasSameLists}
+use Rattle.q_arena.specs.Prelude.{Has}
 use Rattle.q_pages.specs.Layout.{row_of}
-use Rattle.q_pages.specs.Tables.{page_of, place_in, HasFreePages, IsFreePage, IsGiven}
+use Rattle.q_pages.specs.Tables.{page_of, place_in, IsGiven}
 use Rattle.q_pages.proofs.PageEntries.{length-row}
 use Rattle.q_pages.proofs.TableRows.{item-any, given-free, given-items, put-free, place-made}
 use Rattle.q_occ.specs.Paged.{is_full, full_pages, ArePaged}

@@ -1,7 +1,6 @@
-use Rattle.std.proofs.Common.{◌≡◌, ◌+◌, ◌<◌, ◌∙◌, ap, arith, length, refl, get_or, ◌∷◌, inl, inr}
+use Rattle.std.proofs.Common.{◌≡◌, ◌+◌, ◌<◌, ◌∙◌, ap, arith, length, refl, get_or, inl, inr}
 use Rattle.std.proofs.lemmas.List.{get_or_default}
 use Rattle.q_logic.specs.Prelude.{pack}
-use Rattle.q_arena.specs.Prelude.{list_at}
 use Rattle.q_arena.proofs.ArenaView.{length-set'}
 use Rattle.q_occ.specs.Places.{no_lit}
 use Rattle.q_occ.proofs.LinkSteps.{linked-none, linked-more, owned-none, owned-more}

@@ -1,8 +1,7 @@
-use Rattle.std.proofs.Common.{◌≡◌, ◌+◌, ◌∙◌, ap, arith, length, refl, get_or, inr}
+use Rattle.std.proofs.Common.{◌≡◌, ◌+◌, ◌∙◌, ap, arith, refl, get_or, inr}
 use Rattle.std.proofs.lemmas.List.{get_or_default}
 use Rattle.q_logic.specs.Prelude.{pack}
-use Rattle.q_arena.specs.Prelude.{Has, without, list_at}
-use Rattle.q_arena.proofs.ArenaView.{length-set'}
+use Rattle.q_arena.specs.Prelude.{Has, list_at}
 use Rattle.q_occ.specs.Places.{no_lit}
 use Rattle.q_occ.proofs.LinkSteps.{unlinked-none, unlinked-more}
 use Rattle.q_occ.proofs.linking.unlink_all.Goals as goal

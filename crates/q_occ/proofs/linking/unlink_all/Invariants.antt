@@ -1,4 +1,4 @@
-use Rattle.std.proofs.Common.{◌≡◌, length}
+use Rattle.std.proofs.Common.{◌≡◌}
 use Rattle.q_occ.specs.Places.{IsUnlinkedUpto}
 use Rattle.q_occ.proofs.linking.unlink_all.Given as goal
 

@@ -1,4 +1,4 @@
-use Rattle.std.proofs.Common.{◌≡◌, sym, subst, List, ℕ}
+use Rattle.std.proofs.Common.{sym, subst, List, ℕ}
 use Rattle.q_arena.specs.Prelude.{AreApart}
 use Rattle.q_occ.proofs.PagedLists.{list-is, listed, has-page, has-made}
 use Rattle.q_occ.proofs.lists.Lists.distinct.Goals as goal

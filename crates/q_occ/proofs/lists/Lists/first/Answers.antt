@@ -1,4 +1,4 @@
-use Rattle.std.proofs.Common.{◌∙◌, sym, ap, arith, List, ℕ, length, slice_get}
+use Rattle.std.proofs.Common.{[], ◌∙◌, sym, ap, arith, List, ℕ, slice_get}
 use Rattle.std.proofs.lemmas.List.{get_or_past}
 use Rattle.q_arena.specs.Prelude.{list_at}
 use Rattle.q_occ.proofs.PagedLists.{list-is}

@@ -1,5 +1,5 @@
-use Rattle.std.proofs.Common.{ap, sym, subst, ℕ, List}
-use Rattle.q_arena.specs.Prelude.{Chains, Has, list_at}
+use Rattle.std.proofs.Common.{ap}
+use Rattle.q_arena.specs.Prelude.{Chains}
 use Rattle.q_occ.proofs.PagedLists.{paged-none, listed-none}
 use Rattle.q_occ.proofs.lists.Lists.new.Goals as goal
 

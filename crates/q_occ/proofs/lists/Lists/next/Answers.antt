@@ -1,4 +1,4 @@
-use Rattle.std.proofs.Common.{◌∙◌, sym, ap, List, ℕ}
+use Rattle.std.proofs.Common.{◌∙◌, sym, ap}
 use Rattle.q_arena.specs.Prelude.{following}
 use Rattle.q_occ.proofs.PagedLists.{list-is, listed}
 use Rattle.q_occ.proofs.lists.Lists.next.Goals as goal

@@ -1,6 +1,3 @@
-use Rattle.std.proofs.Common.{◌≡◌, ◌≤◌, ◌+◌, ◌*◌, ◌/◌, ◌<◌, List, ℕ, length, sym, ◌∙◌, ap, subst, arith}
-use Rattle.q_arena.specs.Prelude.{Has}
-use Rattle.q_pages.specs.Tables.{place_in, page_of}
 use Rattle.q_occ.proofs.PagedLists.{listed, has-page, list-is, put-paged, put-made, put-lists, room-of, whole-of}
 use Rattle.q_occ.proofs.lists.Lists.remove.Goals as goal
 

@@ -1,4 +1,3 @@
-use Rattle.std.proofs.Common.{refl}
 use Rattle.q_occ.proofs.PagedLists.{given-same, grown-paged, grown-lists, grown-made}
 use Rattle.q_occ.proofs.lists.Lists.reserve.Goals as goal
 
