@@ -1,7 +1,7 @@
 -- Clauses that are put under the ids 0, 1, 2 and so on.
-use Rattle.std.proofs.Common.{◌≡◌, ◌≢◌, ◌⊎◌, ◌≤◌, ◌<◌, ◌+◌, ℕ, zero, suc, [], ◌∷◌, ◌++◌, length, take, get_or, inl, inr, arith, refl, sym, ap, ◌∙◌, subst, Option, Some, None, add-one, not-suc-le-zero, le_of_suc-le-suc}
+use Rattle.std.proofs.Common.{◌≡◌, ◌≢◌, ◌⊎◌, ◌≤◌, ◌<◌, ◌+◌, ℕ, zero, suc, [], ◌∷◌, length, take, get_or, inl, inr, arith, refl, sym, ap, ◌∙◌, subst, Some, None, add-one, not-suc-le-zero, le_of_suc-le-suc}
 use Rattle.std.proofs.lemmas.Bool.{cases_eq}
-use Rattle.q_logic.specs.Prelude.{Clause, Matrix, Slots, slot, set_slot, live, numbered, put_first}
+use Rattle.q_logic.specs.Prelude.{Clause, Matrix, Slots, slot, set_slot, live, numbered}
 use Rattle.q_logic.proofs.Common.{live-numbered, slot-set_other}
 use Rattle.q_kernel.proofs.SlotLists.{slot-set_same, live-same}
 

@@ -1,5 +1,5 @@
 -- What holds of the parts of a kernel.
-use Rattle.std.specs.Prelude.{◌≡◌, ◌⊎◌, ◌≤◌, ◌<◌, ◌+◌, ◌*◌, ℕ, true, [], ◌∷◌, length, Some, None}
+use Rattle.std.specs.Prelude.{◌≡◌, ◌⊎◌, ◌≤◌, ◌<◌, ◌+◌, ℕ, true, [], ◌∷◌, length, Some, None}
 use Rattle.q_logic.specs.Prelude.{Clause, Matrix, Prefix, Literal, without, is_bound, IsProper, slot, set_slot, live, formula_of, size_of, greatest, copies}
 use Rattle.q_arena.specs.Prelude.{Chains, Clauses}
 use Rattle.q_occ.specs.Places.{HasBothLists}
