@@ -295,8 +295,9 @@ class Judging {
         for (uint64_t number = 1; number <= call_.parts; number++) {
             Case other = case_;
             other.fault = Fault();
-            for (Bytes &word : other.words)
-                if (word.substr(0, 7) == "--part=") word = "--part=" + std::to_string(number) + "/" + std::to_string(call_.parts);
+            /* the last such word: a file may have such a name */
+            auto option = std::find_if(other.words.rbegin(), other.words.rend(), [](const Bytes &word) { return word.substr(0, 7) == "--part="; });
+            *option = "--part=" + std::to_string(number) + "/" + std::to_string(call_.parts);
             const Answer answer = play(other);
             auto file = answer.made.find(call_.makes[0]);
             if (answer.status != 0) return "";
