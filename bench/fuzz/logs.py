@@ -272,15 +272,21 @@ class Run:
             self.prefix = [(q, v) for q, v in self.prefix if v != step.literals[0]]
             self.order = Order(self.prefix)
 
+    def hinted_making_cause(self, hinted):
+        """The least cause for which a step with its proof part can't be made, whoever judges it, or None."""
+        step = hinted.step
+        cause = self.cause_of_variables(step, self.order)
+        if cause or step.kind not in "du":
+            return cause
+        return None if self.clauses.get(hinted.name) == frozenset(step.literals) else 3
+
     def hinted_cause(self, hinted):
         """The least cause for a step with its proof part, or None."""
         step, order = hinted.step, self.order
-        cause = self.cause_of_variables(step, order)
+        cause = self.hinted_making_cause(hinted)
         if cause or step.kind in "er":
             return cause
         clause = frozenset(step.literals)
-        if step.kind in "du" and self.clauses.get(hinted.name) != clause:
-            return 3
         first = step.literals[0] if step.literals else None
         others = {n: c for n, c in self.clauses.items() if n != hinted.name}
         if step.kind == "u":
@@ -352,7 +358,8 @@ def judge(formula, output, text, plain_alone=False, part=WHOLE):
         while not words.is_over():
             if hinted and not plain_alone:
                 found = read_hinted(words)
-                step, name, cause = found.step, found.name, run.hinted_cause(found)
+                step, name = found.step, found.name
+                cause = run.hinted_cause(found) if is_own(part, place) else run.hinted_making_cause(found)
             else:
                 step, name = read_step(words), None
                 cause = run.cause(step) if is_own(part, place) else run.making_cause(step)
