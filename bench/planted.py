@@ -82,7 +82,7 @@ def look():
 
 VERDICTS = {
     "refused": "tried, and refused by a proof of the function",
-    "proves": "tried, and proves: it costs time alone",
+    "proves": "tried, and proves",
     "earlier": "refused on an earlier form of the sources, not tried anew",
     "edit": "an edit before, refused as such",
     "not tried": "not tried",
