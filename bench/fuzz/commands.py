@@ -165,10 +165,8 @@ def check(case, answer):
 def annotate(case, answer):
     start, end, judged = log_in(case, plain_alone=True)
     want((answer.status, answer.line) == (0, f"annotated {judged.steps}"), f"'annotated {judged.steps}'")
-    place, parts = part_of(case)
-    if case.fault and place > 1 and not judged.steps:
-        return  # no byte is written, so nothing fails
     text = written(answer, "HINTED")
+    place, parts = part_of(case)
     if place > 1 or parts > 1 and judged.steps >= logs.BLOCK:
         # the lines of a part are no whole log
         lines = text.splitlines()
