@@ -13,12 +13,15 @@ struct Fault {
 struct Case {
     std::vector<Bytes> words;
     std::map<Bytes, Bytes> files; /* a name that is not here is one of no file, which is read as one of no bytes */
+    Bytes moves;                  /* what is tried first; no bytes: no list of moves */
+    bool is_by_name = false;      /* played by the library's call of that name, where there is one for these words and files */
     Fault fault;
 };
 struct Answer {
     int status = -1;
     Bytes line; /* without its LF */
     std::map<Bytes, Bytes> made;
+    size_t wrong_line = 0;            /* of the moves */
     size_t allocations = 0, lost = 0; /* blocks that were taken, and that were not given back */
     Bytes wrong;                      /* about lengths and room; empty: nothing */
 };

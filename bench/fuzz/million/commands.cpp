@@ -7,6 +7,7 @@
 #include "generator.h"
 #include "library.h"
 #include "log_texts.h"
+#include "moves.h"
 #include "search.h"
 #include "settled.h"
 #include "trace.h"
@@ -479,6 +480,7 @@ Bytes kind_of(const Case &what, const Call &call) {
     if (call.herbrand) kind += " --herbrand";
     if (call.plain) kind += " --plain";
     if (call.verb == "disprove" && !call.makes.empty()) kind += " CERT";
+    if (!what.moves.empty()) kind += " (moves)";
     if (what.fault.refuses()) kind += " (memory refused)";
     else if (what.fault.what != Fault::What::None) kind += " (little room)";
     return kind;
@@ -492,7 +494,10 @@ Bytes judge_answer(const Case &what, const Answer &answer, Notes &notes) {
     notes.answer = std::to_string(answer.status) + " " + counted(answer);
     if (!answer.wrong.empty()) return answer.wrong;
     if (answer.lost) return "blocks of memory that were not given back: " + number(answer.lost);
+    const size_t wrong_line = wrong_move(what.moves);
+    if (answer.wrong_line != wrong_line) return "wanted the first wrong line of the moves to be " + number(wrong_line);
     try {
+        if (wrong_line) throw Told{64, ""};
         if (what.fault.what == Fault::What::ShortLine || what.fault.what == Fault::What::ShortMade) return judge_short(what, answer), "";
         if (what.fault.refuses() && answer.status == 6) {
             if (call) judge_want_of_memory(what, *call, answer);
@@ -507,7 +512,7 @@ Bytes judge_answer(const Case &what, const Answer &answer, Notes &notes) {
             return "wanted " + std::to_string(told.status) + " '" + told.line + "'";
         if (!is_done(told.status) && call && has_files_behind_refusals(*call, answer))
             return "wanted no file that is made behind all refusals";
-        if (!call && !answer.made.empty()) return "wanted no file";
+        if ((!call || wrong_line) && !answer.made.empty()) return "wanted no file";
     } catch (const Wrong &wrong) {
         return "wanted " + wrong.what;
     } catch (const Refused &refused) {

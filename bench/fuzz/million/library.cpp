@@ -33,6 +33,20 @@ celdrinn_word word_of(const Bytes &text, const Case &what) {
     return {bytes(text), text.size(), bytes(file->second), file->second.size(), 1};
 }
 
+/* the words of the commands that have a call of their own, and how many of them name files that are read */
+const std::vector<std::pair<std::vector<Bytes>, size_t>> BY_NAME = {
+    {{"simplify", "IN", "OUT", "LOG"}, 1}, {{"check", "IN", "OUT", "LOG"}, 3}, {{"rebuild", "IN", "OUT", "LOG", "SKOLEM", "CERT"}, 4}};
+bool has_own_call(const Case &what) {
+    if (!what.is_by_name || !what.moves.empty() || (what.fault.what != Fault::What::None && !what.fault.refuses())) return false;
+    for (const auto &[words, reads] : BY_NAME) {
+        if (what.words != words) continue;
+        for (size_t at = 1; at < words.size(); at++)
+            if (what.files.count(words[at]) != (at <= reads)) return false;
+        return true;
+    }
+    return false;
+}
+
 } // namespace
 
 extern "C" {
@@ -51,27 +65,59 @@ void rattle_dealloc(void *at) {
 }
 }
 
-Answer play(const Case &what) {
+namespace {
+
+void take_line(Answer &answer, size_t size, size_t room) {
+    if (size <= room) answer.line.assign(reinterpret_cast<char *>(line), size);
+    else answer.line.assign(size, '?');
+    if (!answer.line.empty() && answer.line.back() == '\n') answer.line.pop_back();
+    else if (size && size <= room) answer.wrong = "a line without its end";
+}
+
+Answer play_by_name(const Case &what) {
+    constexpr size_t HALF = ROOM / 2;
+    const auto bytes = [&](const char *name) { return reinterpret_cast<const uint8_t *>(what.files.at(name).data()); };
+    const auto size = [&](const char *name) { return what.files.at(name).size(); };
+    celdrinn_lengths lengths{1, 1, 1};
+    Answer answer;
+    if (what.words[0] == "simplify") {
+        answer.status = celdrinn_simplify(bytes("IN"), size("IN"), made, HALF, made + HALF, HALF, line, LINE_ROOM, &lengths);
+        if (lengths.log) answer.made["LOG"].assign(reinterpret_cast<char *>(made + HALF), lengths.log);
+        if (lengths.output) answer.made["OUT"].assign(reinterpret_cast<char *>(made), lengths.output);
+    } else if (what.words[0] == "check") {
+        answer.status =
+            celdrinn_check(bytes("IN"), size("IN"), bytes("OUT"), size("OUT"), bytes("LOG"), size("LOG"), line, LINE_ROOM, &lengths);
+        if (lengths.output || lengths.log) answer.wrong = "lengths of files that `check` does not make";
+    } else {
+        answer.status = celdrinn_rebuild(bytes("IN"), size("IN"), bytes("OUT"), size("OUT"), bytes("LOG"), size("LOG"), bytes("SKOLEM"),
+                                         size("SKOLEM"), made, ROOM, line, LINE_ROOM, &lengths);
+        if (lengths.output) answer.made["CERT"].assign(reinterpret_cast<char *>(made), lengths.output);
+        if (lengths.log) answer.wrong = "a length for a log that `rebuild` does not make";
+    }
+    take_line(answer, lengths.line, LINE_ROOM);
+    return answer;
+}
+
+Answer play_words(const Case &what) {
     std::vector<celdrinn_word> words;
     for (const Bytes &text : what.words) words.push_back(word_of(text, what));
     std::vector<size_t> lengths(words.size() + 1, 0);
     const size_t made_room = what.fault.what == Fault::What::ShortMade ? what.fault.at : ROOM;
     const size_t line_room = what.fault.what == Fault::What::ShortLine ? what.fault.at : LINE_ROOM;
     celdrinn_word nothing{made, 0, made, 0, 0};
+    const celdrinn_word *first = words.empty() ? &nothing : words.data();
     size_t line_size = 0;
     if (made_room < ROOM) made[made_room] = UNTOUCHED;
     if (line_room < LINE_ROOM) line[line_room] = UNTOUCHED;
-    memory = Memory{0, 0, what.fault.refuses() ? what.fault : Fault()};
     Answer answer;
-    answer.status = celdrinn_run(words.empty() ? &nothing : words.data(), words.size(), lengths.data(), words.size(), made, made_room, line,
-                                 line_room, &line_size);
-    answer.allocations = memory.calls, answer.lost = memory.live;
+    if (what.moves.empty())
+        answer.status = celdrinn_run(first, words.size(), lengths.data(), words.size(), made, made_room, line, line_room, &line_size);
+    else
+        answer.status = celdrinn_run_listed(first, words.size(), reinterpret_cast<const uint8_t *>(what.moves.data()), what.moves.size(),
+                                            lengths.data(), words.size(), made, made_room, line, line_room, &line_size, &answer.wrong_line);
     if (made_room < ROOM && made[made_room] != UNTOUCHED) answer.wrong = "a byte is written behind the room for files";
     if (line_room < LINE_ROOM && line[line_room] != UNTOUCHED) answer.wrong = "a byte is written behind the room for the line";
-    if (line_size <= line_room) answer.line.assign(reinterpret_cast<char *>(line), line_size);
-    else answer.line.assign(line_size, '?');
-    if (!answer.line.empty() && answer.line.back() == '\n') answer.line.pop_back();
-    else if (line_size && line_size <= line_room) answer.wrong = "a line without its end";
+    take_line(answer, line_size, line_room);
     size_t sum = 0;
     for (size_t at = 0; at < words.size(); at++) sum += lengths[at];
     const uint8_t *from = made;
@@ -81,5 +127,14 @@ Answer play(const Case &what) {
         if (sum <= made_room) answer.made[what.words[at]].assign(reinterpret_cast<const char *>(from), lengths[at]);
         else answer.made[what.words[at]].assign(lengths[at], '?');
     }
+    return answer;
+}
+
+} // namespace
+
+Answer play(const Case &what) {
+    memory = Memory{0, 0, what.fault.refuses() ? what.fault : Fault()};
+    Answer answer = has_own_call(what) ? play_by_name(what) : play_words(what);
+    answer.allocations = memory.calls, answer.lost = memory.live;
     return answer;
 }

@@ -31,6 +31,8 @@ class Maker {
         for (const char *name : shape.makes) case_.words.push_back(name);
         if (has_cert_) case_.words.push_back("CERT");
         case_.words.insert(case_.words.end(), options_.begin(), options_.end());
+        case_.is_by_name = chance_.odds(0.2);
+        if (chance_.odds(verb_ == "simplify" || verb_ == "solve" ? 0.25 : 0.01)) case_.moves = some_moves(chance_, start_);
         if (chance_.odds(0.04)) wrong_words();
         else if (chance_.odds(0.05)) plan_fault();
         if (chance_.odds(0.01)) case_.files[chance_.among({"OUT", "LOG", "CERT", "HINTED"})] = "what was there before\n";
@@ -90,8 +92,13 @@ class Maker {
     }
 
     /* --- files --- */
+    Answer played(std::vector<Bytes> words) {
+        Case other;
+        other.words = std::move(words), other.files = case_.files;
+        return play(other);
+    }
     Bytes made_by(std::vector<Bytes> words, const Bytes &name) {
-        const Answer answer = play({std::move(words), case_.files, {}});
+        const Answer answer = played(std::move(words));
         auto file = answer.made.find(name);
         return file == answer.made.end() ? Bytes() : file->second;
     }
@@ -99,8 +106,11 @@ class Maker {
         start_ = some_formula(chance_);
         if (verb_ == "simplify" || verb_ == "check" || verb_ == "annotate" || verb_ == "apply") {
             if (chance_.odds(0.04)) start_ = larger_formula(chance_);
+            else if (chance_.odds(0.02)) start_ = crowded_formula(chance_);
             else if (chance_.odds(0.01)) start_ = generated(chance_.next(), static_cast<uint64_t>(chance_.between(10, 40)));
         }
+        if (verb_ == "solve" && chance_.odds(0.25)) start_ = larger_formula(chance_);
+        if (verb_ == "extract" && chance_.odds(0.2)) start_ = following_formula(chance_);
         case_.files["IN"] = written(chance_, start_);
         start_ = read_formula(case_.files["IN"]);
         const Bytes role = verb_;
@@ -130,7 +140,7 @@ class Maker {
             Walk walk = some_walk(chance_, start_);
             case_.files["OUT"] = walk.end, case_.files["LOG"] = walk.log;
         } else {
-            const Answer answer = play({simplify_words(), case_.files, {}});
+            const Answer answer = played(simplify_words());
             for (const char *name : {"OUT", "LOG"}) case_.files[name] = answer.made.count(name) ? answer.made.at(name) : Bytes();
         }
         if (has_part_ && chance_.odds(0.3)) case_.files["LOG"] = padding(chance_, start_) + case_.files["LOG"];
@@ -146,7 +156,7 @@ class Maker {
     Bytes proof() {
         Bytes log = some_refutation(chance_, start_);
         if (chance_.odds(0.3)) {
-            const Answer answer = play({simplify_words(), case_.files, {}});
+            const Answer answer = played(simplify_words());
             log = answer.made.count("LOG") ? answer.made.at("LOG") : Bytes();
         }
         if (has_part_ && chance_.odds(0.3)) log = padding(chance_, start_) + log;

@@ -31,6 +31,8 @@ class Builder {
     void waste(Chance &chance) {
         gates_.push_back({chance.below(2 * (inputs_ + gates_.size()) + 2), chance.below(2 * (inputs_ + gates_.size()) + 2)});
     }
+    /* some gate reads any gate, so it may depend on itself */
+    void tie(Chance &chance) { chance.of(gates_).second = 2 * (inputs_ + 1 + chance.below(gates_.size())); }
 
   private:
     size_t inputs_;
@@ -81,6 +83,7 @@ Bytes some_circuits(Chance &chance, const Formula &formula, char owner, double c
         if (has_waste) builder.waste(chance);
         outputs.push_back(builder.of_row(rows.at(v)));
     }
+    if (!builder.gates().empty() && chance.odds(0.03)) builder.tie(chance);
     if (chance.odds(0.1)) { /* an order of its own */
         std::vector<std::pair<int, uint64_t>> pairs;
         for (size_t at = 0; at < owned.size(); at++) pairs.push_back({owned[at], outputs[at]});
@@ -96,7 +99,7 @@ Bytes some_circuits(Chance &chance, const Formula &formula, char owner, double c
     for (size_t at = 0; at < builder.gates().size(); at++)
         lines.push_back(std::to_string(2 * (count + at + 1)) + " " + std::to_string(builder.gates()[at].first) + " " +
                         std::to_string(builder.gates()[at].second) + "\n");
-    if (chance.odds(0.2)) chance.shuffle(lines);
+    if (chance.odds(0.5)) chance.shuffle(lines);
     for (const Bytes &line : lines) text += line;
     lines.clear();
     for (size_t at = 0; at < count; at++) lines.push_back("i" + std::to_string(at) + " " + std::to_string(others[at]) + "\n");

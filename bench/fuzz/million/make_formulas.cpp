@@ -13,6 +13,7 @@ static std::vector<Bound> some_prefix(Chance &chance, std::vector<int> &variable
     for (size_t v = 1; v <= count; v++) variables.push_back(static_cast<int>(v));
     if (chance.odds(0.7)) chance.shuffle(variables);
     if (chance.odds(0.02)) variables.back() = chance.among({9, 100, 3000});
+    if (chance.odds(0.002)) variables.back() = chance.among({524287, 524288, 600000});
     if (chance.odds(0.0005)) variables.back() = chance.among({16777214, 16777215}); /* tables of that size cost time */
     const double share = chance.among({0.1, 0.3, 0.5, 0.7, 1.0});
     std::vector<Bound> prefix;
@@ -54,7 +55,7 @@ Formula some_formula(Chance &chance) {
     for (size_t left = is_dense ? 15 + chance.below(most) : chance.below(most + 1); left > 0; left--) {
         Clause clause;
         size_t length =
-            size ? size : chance.among({size_t(1), size_t(2), size_t(2), size_t(3), size_t(3), size_t(3), size_t(4), size_t(5)});
+            size ? size : chance.among({size_t(1), size_t(2), size_t(2), size_t(3), size_t(3), size_t(3), size_t(4), size_t(5), size_t(7)});
         while (length-- > 0) clause.push_back(signed_of(chance, variables));
         formula.matrix.push_back(clause);
     }

@@ -1,5 +1,8 @@
-/* Twelve variables, and so many clauses of mostly four literals that each elimination would make the formula grow. */
+/* Twelve variables, and so many clauses that each elimination would make the formula grow, or that one literal has a long row; and pairs
+ * of variables. */
 #include "make_larger.h"
+#include <cstdlib>
+#include <utility>
 
 Formula larger_formula(Chance &chance) {
     constexpr int COUNT = 12;
@@ -12,11 +15,58 @@ Formula larger_formula(Chance &chance) {
     }
     for (size_t left = 50 + chance.below(50); left > 0; left--) {
         Clause clause;
-        for (size_t length = chance.odds(0.1) ? 3 : 4; length > 0; length--) {
+        for (size_t length = chance.odds(0.2) ? chance.among({3, 7}) : 4; length > 0; length--) {
             const int v = 1 + static_cast<int>(chance.below(COUNT));
             clause.push_back(chance.coin() ? v : -v);
         }
         formula.matrix.push_back(clause);
     }
+    return formula;
+}
+
+/* a row is long from 64 clauses on */
+Formula crowded_formula(Chance &chance) {
+    Formula formula = larger_formula(chance);
+    formula.matrix.resize(10 + chance.below(10));
+    const int crowded = chance.among({1, -1, 12, -12});
+    for (size_t left = 70 + chance.below(60); left > 0; left--) {
+        Clause clause{crowded};
+        while (clause.size() < 3) {
+            const int v = 1 + static_cast<int>(chance.below(12));
+            if (v != std::abs(crowded)) clause.push_back(chance.coin() ? v : -v);
+        }
+        formula.matrix.push_back(clause);
+    }
+    chance.shuffle(formula.matrix);
+    return formula;
+}
+
+/* the variables stand in pairs, and who has the later one of a pair wins by making it the earlier one, or its negation */
+Formula following_formula(Chance &chance) {
+    const int pairs = 1 + static_cast<int>(chance.below(2)), last = 3 * pairs;
+    const bool is_false = chance.coin(), is_nested = chance.coin();
+    const char first = is_false ? 'e' : 'a', second = is_false ? 'a' : 'e';
+    Formula formula;
+    for (int p = 0; p < pairs; p++) formula.prefix.push_back({first, 2 * p + 1}), formula.prefix.push_back({second, 2 * p + 2});
+    if (is_nested && pairs == 2) std::swap(formula.prefix[1], formula.prefix[2]);
+    Clause none;
+    for (int p = 0; p < pairs; p++) {
+        const int x = chance.coin() ? 2 * p + 1 : -2 * p - 1, y = 2 * p + 2, t = 2 * pairs + 1 + p;
+        formula.prefix.push_back({'e', t});
+        formula.matrix.insert(formula.matrix.end(), {{x, y, t}, {-x, -y, t}});
+        none.push_back(-t);
+    }
+    if (is_false) formula.matrix.push_back(none);
+    else
+        for (int t : none) formula.matrix.push_back({t});
+    for (size_t left = chance.below(3); left > 0; left--) {
+        Clause clause;
+        for (size_t length = 2 + chance.below(2); length > 0; length--) {
+            const int v = 1 + static_cast<int>(chance.below(static_cast<size_t>(last)));
+            clause.push_back(chance.coin() ? v : -v);
+        }
+        formula.matrix.push_back(clause);
+    }
+    chance.shuffle(formula.matrix);
     return formula;
 }

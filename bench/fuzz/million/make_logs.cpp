@@ -13,6 +13,7 @@ static std::vector<int> variables_of(const Run &run) {
 static int fresh_number(Chance &chance, const std::vector<int> &variables) {
     const int greatest = *std::max_element(variables.begin(), variables.end());
     if (chance.odds(0.0005)) return 16777215; /* tables of that size cost time */
+    if (chance.odds(0.002)) return 524288;
     return chance.odds(0.9) ? greatest + 1 : chance.among({greatest, 3000, 16777216, 1});
 }
 /* two clauses joined without a literal and its negation, and now and then without another one */
@@ -57,6 +58,13 @@ static Step some_step(Chance &chance, const Run &run, const std::vector<Clause> 
     }
     return step;
 }
+/* the text of a step, in which a literal may be repeated */
+static Bytes written(Chance &chance, Step step) {
+    auto &literals = step.literals;
+    if (step.is_of_clause() && !literals.empty() && chance.odds(0.03))
+        literals.insert(literals.begin() + static_cast<std::ptrdiff_t>(1 + chance.below(literals.size())), chance.of(literals));
+    return step_text(step);
+}
 Bytes some_step_text(Chance &chance, const Formula &formula) {
     const Run run(formula);
     return step_text(some_step(chance, run, formula.matrix));
@@ -69,7 +77,7 @@ Walk some_walk(Chance &chance, const Formula &start) {
     for (size_t left = 1 + chance.below(60); left > 0; left--) {
         const Step step = some_step(chance, run, matrix);
         if (run.cause(step) != 0) continue;
-        walk.log += step_text(step);
+        walk.log += written(chance, step);
         run.make(step);
         matrix = run.formula().matrix;
     }
@@ -96,7 +104,7 @@ Bytes some_refutation(Chance &chance, const Formula &start) {
         else step = some_step(chance, run, matrix);
         const int cause = step.kind == Kind::Delete && chance.odds(0.3) ? run.making_cause(step) : run.cause(step);
         if (cause == 0) {
-            log += step_text(step);
+            log += written(chance, step);
             run.make(step);
             matrix = run.formula().matrix;
         }

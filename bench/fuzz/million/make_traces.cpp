@@ -18,7 +18,7 @@ class Prover {
   public:
     Prover(Chance &chance, const Formula &formula) : chance_(chance), formula_(formula), tables_(games(formula)) {
         owner_ = tables_[0].at(0) ? 'e' : 'a';
-        lazy_ = chance.among({0.0, 0.0, 0.3, 0.8});
+        lazy_ = chance.among({0.0, 0.3, 0.8});
         for (const Clause &clause : formula.matrix)
             if (std::none_of(clause.begin(), clause.end(), [&](int k) { return holds(clause, -k); })) plain_.push_back(clause_of(clause));
     }

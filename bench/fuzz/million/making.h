@@ -27,6 +27,9 @@ Bytes some_step_text(Chance &chance, const Formula &formula);
 Bytes some_circuits(Chance &chance, const Formula &formula, char owner, double careless);
 Bytes some_trace(Chance &chance, const Formula &formula);
 
+/* --- moves --- */
+Bytes some_moves(Chance &chance, const Formula &formula);
+
 /* --- mistakes --- */
 Bytes spoiled(Chance &chance, Bytes text);         /* one to three, in words, lines or bytes */
 Bytes spoiled_numbers(Chance &chance, Bytes text); /* one number is another one */

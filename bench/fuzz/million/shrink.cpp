@@ -105,6 +105,12 @@ Case made_small(Case what) {
             candidate.words.erase(candidate.words.begin() + static_cast<std::ptrdiff_t>(at));
             is_smaller = what.words[at].substr(0, 2) == "--" && better(candidate);
         }
+        const Bytes moves = what.moves;
+        is_smaller = is_smaller || shorter_rows(lines_with_ends(moves), [&](const Bytes &shorter) {
+                         Case candidate = what;
+                         candidate.moves = shorter;
+                         return better(candidate);
+                     });
         const std::map<Bytes, Bytes> files = what.files;
         for (const auto &[name, text] : files) {
             const Bytes &file = name;
@@ -130,11 +136,13 @@ void keep(const Case &what, const Bytes &folder, const Bytes &head) {
     mkdir(folder.c_str(), 0777);
     Bytes said = head + "\n";
     for (const Bytes &word : what.words) said += word + " ";
+    said += what.is_by_name ? "\nby the call of its name" : "";
     said += "\nfault: " + std::to_string(static_cast<int>(what.fault.what)) + " at " + std::to_string(what.fault.at) + "\n";
     for (const auto &[name, text] : what.files) {
         said += name + ": " + text + (!text.empty() && text.back() == '\n' ? "" : "\n");
         if (name.find('/') == Bytes::npos && !name.empty() && name[0] != '.') write_file(folder + "/" + name, text);
     }
+    if (!what.moves.empty()) said += "moves: " + what.moves + "\n", write_file(folder + "/moves", what.moves);
     write_file(folder + "/what", said);
     std::fwrite(said.data(), 1, said.size(), stdout);
 }
