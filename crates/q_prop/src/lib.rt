@@ -3,6 +3,7 @@
 #![tactic(auto)]
 
 mod buckets;
+mod by_literal;
 mod chain;
 mod clauses;
 mod glance;
