@@ -3,7 +3,6 @@
 #![tactic(auto)]
 
 mod buckets;
-mod by_literal;
 mod chain;
 mod clauses;
 mod glance;

@@ -4,8 +4,8 @@ ghost use Rattle.std.specs.Prelude.{◌≡◌, ◌↔◌, ◌<◌, ◌-◌, ◌+
 ghost use Rattle.q_prop.specs.Marks.{IsTaken};
 ghost use Rattle.q_prop.specs.Spots.{cut};
 
-use crate::by_literal::ByLiteral;
 use q_logic::{Lit, NoMemory};
+use q_pages::ByNumber;
 use std::alloc::Global;
 use std::marker::Model;
 
@@ -14,9 +14,9 @@ use std::marker::Model;
 #[derive(Drop)]
 pub struct Trail {
     lits: Vec<Lit>,
-    marks: ByLiteral<bool>,
-    spots: ByLiteral<u32>,
-    reasons: ByLiteral<u32>,
+    marks: ByNumber<bool>,
+    spots: ByNumber<u32>,
+    reasons: ByNumber<u32>,
     conflict: usize,
 }
 
@@ -41,9 +41,9 @@ impl Trail {
     {
         Trail {
             lits: Vec::new(alloc),
-            marks: ByLiteral::new(alloc, false),
-            spots: ByLiteral::new(alloc, u32::MAX),
-            reasons: ByLiteral::new(alloc, u32::MAX),
+            marks: ByNumber::new(alloc, false),
+            spots: ByNumber::new(alloc, u32::MAX),
+            reasons: ByNumber::new(alloc, u32::MAX),
             conflict: NO_SLOT,
         }
     }
@@ -52,7 +52,7 @@ impl Trail {
     /// looked at before it is used: a wrong one costs time alone.
     pub(crate) fn reason(&self, lit: Lit) -> usize {
         if self.has(lit) {
-            self.reasons.get(lit) as usize
+            self.reasons.get(lit.index()) as usize
         } else {
             NO_SLOT
         }
@@ -62,9 +62,9 @@ impl Trail {
     pub fn change_reason(&mut self, lit: Lit, old: usize, new: usize)
         ensures { self.new ≡ self.old }
     {
-        if self.reasons.get(lit) as usize == old {
+        if self.reasons.get(lit.index()) as usize == old {
             // It has a reason, so this takes no memory.
-            let _ = self.reasons.put(lit, short(new));
+            let _ = self.reasons.put(lit.index(), short(new));
         }
     }
 
@@ -96,7 +96,7 @@ impl Trail {
     pub fn has(&self, lit: Lit) -> bool
         ensures { IsTrue result ↔ Contains self.now lit }
     {
-        self.marks.get(lit)
+        self.marks.get(lit.index())
     }
 
     pub fn push(&mut self, lit: Lit) -> Result<(), NoMemory>
@@ -113,10 +113,10 @@ impl Trail {
         ensures ok { OnOk result (self.new ≡ self.old ++ lit ∷ []) }
         ensures err { OnErr result (self.new ≡ self.old) }
     {
-        self.spots.put(lit, short(self.lits.len()))?;
-        self.reasons.put(lit, short(slot))?;
+        self.spots.put(lit.index(), short(self.lits.len()))?;
+        self.reasons.put(lit.index(), short(slot))?;
         self.lits.reserve(1)?;
-        self.marks.put(lit, true)?;
+        self.marks.put(lit.index(), true)?;
         self.lits.push_reserved(lit);
         Ok(())
     }
@@ -126,7 +126,7 @@ impl Trail {
         ensures { self.new ≡ take (length self.old - 1) self.old }
     {
         if let Some(lit) = self.lits.pop() {
-            self.marks.clear(lit);
+            self.marks.clear(lit.index());
         }
     }
 
@@ -142,14 +142,14 @@ impl Trail {
     pub fn remove(&mut self, lit: Lit)
         ensures { IsTaken lit self.old self.new }
     {
-        let Some(place) = place_of(&self.lits, lit, self.spots.get(lit) as usize) else {
+        let Some(place) = place_of(&self.lits, lit, self.spots.get(lit.index()) as usize) else {
             return;
         };
         self.lits.swap_remove(place);
-        self.marks.clear(lit);
+        self.marks.clear(lit.index());
         if let Some(moved) = self.lits.get(place) {
             // It has a place, so this takes no memory.
-            let _ = self.spots.put(*moved, short(place));
+            let _ = self.spots.put(moved.index(), short(place));
         }
     }
 }

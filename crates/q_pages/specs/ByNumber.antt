@@ -1,4 +1,4 @@
--- Values by number, near ones in a plain row, far ones in pages.
+-- Values by number: small numbers in a plain row, great ones in pages.
 use Rattle.std.specs.Prelude.{◌≡◌, ◌≢◌, ℕ, nat_lt, cond, List, slice_index_or, refl}
 use Rattle.std.specs.Coded.{Coded, code_by, coded×, coded_list}
 use Rattle.q_pages.specs.Rows.{Row, row_code, item_at}
