@@ -1,14 +1,15 @@
 -- Regions of variables: the existential literals of a clause that are inner to one variable lie in one region.
 use Rattle.std.specs.Prelude.{◌≡◌, ℕ, Bool, true, false, cond, List, slice_index_or}
 use Rattle.q_logic.specs.Prelude.{Literal, Clause, Matrix, Prefix, IsIn, is_universal, inner_existential}
+use Rattle.q_pages.specs.ByNumber.{Values, value_at}
 
 -- the label of each variable, and which labels are regions of their own
 pub record Labelled : Type 0 where
-  pub labels : List ℕ
+  pub labels : Values ℕ
   pub live : List Bool
 
 abbrev pub label_of : Labelled → ℕ → ℕ
-label_of L v = slice_index_or L.labels v 0
+label_of L v = value_at L.labels v
 
 -- the region of a variable: its label, or 0 where that is no region of its own
 abbrev pub region_of : Labelled → ℕ → ℕ

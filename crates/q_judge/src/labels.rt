@@ -1,18 +1,20 @@
 //! Labels for the variables that clauses connect.
-ghost use Rattle.std.specs.Prelude.{◌≡◌, ◌<◌, ℕ, true, cond, eqb, length, slice_index_or, OnOk};
+ghost use Rattle.std.specs.Prelude.{◌≡◌, ℕ, true, cond, eqb};
 ghost use Rattle.q_logic.specs.Prelude.{Literal, IsIn, is_bound};
 ghost use Rattle.q_judge.specs.Regions.{label_of, region_of, IsCoarser};
 
 use crate::view::View;
 use q_logic::{Lit, NoMemory};
+use q_pages::ByNumber;
 use std::alloc::Global;
 use std::marker::Model;
 
 /// A label for each variable, and so its region. Regions can become one, but are never parted.
 #[derive(Drop)]
 pub struct Labels {
+    alloc: Global,
     // 0 for a variable without a label
-    labels: Vec<u32>,
+    labels: ByNumber<u32>,
     // whether a label is a region of its own; the others are the region 0
     live: Vec<bool>,
     // the slots whose clauses were met while labels are made
@@ -31,7 +33,7 @@ impl Model for Labels {
 
     ghost Value = { Labelled };
 
-    ghost view = { λ l. record { labels = l.labels.items; live = l.live.items } };
+    ghost view = { λ l. record { labels = l.labels; live = l.live.items } };
 }
 
 impl Labels {
@@ -40,7 +42,8 @@ impl Labels {
         ensures { (v : ℕ) → region_of result v ≡ 0 }
     {
         Labels {
-            labels: Vec::new(alloc),
+            alloc,
+            labels: ByNumber::new(alloc, 0),
             live: Vec::new(alloc),
             met: Vec::new(alloc),
         }
@@ -50,14 +53,14 @@ impl Labels {
     pub fn forget(&mut self)
         ensures { (v : ℕ) → region_of self.new v ≡ 0 }
     {
-        self.labels.clear();
+        self.labels.clear_all(self.alloc);
         self.live.clear();
     }
 
     fn label_of(&self, var: u32) -> u32
         ensures { result ≡ label_of self.now var }
     {
-        self.labels.get(var as usize).copied().unwrap_or(0)
+        self.labels.get(var as usize)
     }
 
     /// The region of a variable.
@@ -107,9 +110,7 @@ impl Labels {
     fn put(&mut self, var: u32, label: u32) -> Result<(), NoMemory>
         ensures { (x : ℕ) → (x ≡ var → ⊥) → region_of self.new x ≡ region_of self.old x }
     {
-        make_room(&mut self.labels, var)?;
-        self.labels[var as usize] = label;
-        Ok(())
+        self.labels.put(var as usize, label)
     }
 
     /// Gives a label to each existential variable that is inner to w and occurs, the same one where clauses
@@ -197,17 +198,4 @@ impl Labels {
         }
         Ok(())
     }
-}
-
-// Variables behind the last one with a label have the label 0.
-fn make_room(labels: &mut Vec<u32>, var: u32) -> Result<(), NoMemory>
-    ensures same { (v : ℕ) →
-        slice_index_or labels.new.items v 0 ≡ slice_index_or labels.old.items v 0 }
-    ensures room { OnOk result (var < length labels.new.items) }
-{
-    let end = var as usize + 1;
-    if labels.len() < end {
-        labels.resize(end, 0)?;
-    }
-    Ok(())
 }

@@ -1,11 +1,11 @@
 // The literals that are known, in the order in which they came, with a mark for each literal, and beside it the slot that may have
 // forced it. The notes are guesses: who uses one tests it first.
-ghost use Rattle.std.specs.Prelude.{◌≡◌, ◌↔◌, ◌<◌, ◌+◌, ◌-◌, ◌++◌, ◌∷◌, [], length, slice_get, OnOk, OnErr, Some, Contains, IsTrue, MatchOption, ℕ, slice_index_or, vec_len, false, take};
-ghost use Rattle.q_logic.specs.Prelude.{pack};
+ghost use Rattle.std.specs.Prelude.{◌≡◌, ◌↔◌, ◌<◌, ◌-◌, ◌++◌, ◌∷◌, [], length, slice_get, OnOk, OnErr, Some, Contains, IsTrue, MatchOption, take};
 ghost use Rattle.q_prop.specs.Marks.{IsTaken};
+ghost use Rattle.q_prop.specs.Spots.{cut};
 
-use crate::spots::Spots;
 use q_logic::{Lit, NoMemory};
+use q_pages::ByNumber;
 use std::alloc::Global;
 use std::marker::Model;
 
@@ -14,9 +14,9 @@ use std::marker::Model;
 #[derive(Drop)]
 pub struct Trail {
     lits: Vec<Lit>,
-    marks: Vec<bool>,
-    spots: Spots,
-    reasons: Spots,
+    marks: ByNumber<bool>,
+    spots: ByNumber<u32>,
+    reasons: ByNumber<u32>,
     conflict: usize,
 }
 
@@ -24,7 +24,7 @@ pub struct Trail {
 pub const NO_SLOT: usize = 4_294_967_295;
 
 impl Model for Trail {
-    ghost use Rattle.std.specs.Prelude.{List};
+    ghost use Rattle.std.specs.Prelude.{◌≡◌, List, false};
     ghost use Rattle.q_logic.specs.Prelude.{Literal};
     ghost use Rattle.q_prop.specs.Marks.{IsMarked, IsOnce};
 
@@ -32,7 +32,7 @@ impl Model for Trail {
 
     ghost view = { λ t. t.lits.items };
 
-    ghost invariant = { λ t. IsMarked t.marks.items t.lits.items × IsOnce t.lits.items };
+    ghost invariant = { λ t. IsMarked t.marks t.lits.items × IsOnce t.lits.items × (t.marks.far.none ≡ false) };
 }
 
 impl Trail {
@@ -41,9 +41,9 @@ impl Trail {
     {
         Trail {
             lits: Vec::new(alloc),
-            marks: Vec::new(alloc),
-            spots: Spots::new(alloc),
-            reasons: Spots::new(alloc),
+            marks: ByNumber::new(alloc, false),
+            spots: ByNumber::new(alloc, u32::MAX),
+            reasons: ByNumber::new(alloc, u32::MAX),
             conflict: NO_SLOT,
         }
     }
@@ -52,7 +52,7 @@ impl Trail {
     /// looked at before it is used: a wrong one costs time alone.
     pub(crate) fn reason(&self, lit: Lit) -> usize {
         if self.has(lit) {
-            self.reasons.get(lit.index())
+            self.reasons.get(lit.index()) as usize
         } else {
             NO_SLOT
         }
@@ -62,8 +62,9 @@ impl Trail {
     pub fn change_reason(&mut self, lit: Lit, old: usize, new: usize)
         ensures { self.new ≡ self.old }
     {
-        if self.reasons.get(lit.index()) == old {
-            self.reasons.set(lit.index(), new);
+        if self.reasons.get(lit.index()) as usize == old {
+            // It has a reason, so this takes no memory.
+            let _ = self.reasons.put(lit.index(), short(new));
         }
     }
 
@@ -95,7 +96,7 @@ impl Trail {
     pub fn has(&self, lit: Lit) -> bool
         ensures { IsTrue result ↔ Contains self.now lit }
     {
-        is_marked(&self.marks, lit)
+        self.marks.get(lit.index())
     }
 
     pub fn push(&mut self, lit: Lit) -> Result<(), NoMemory>
@@ -112,12 +113,11 @@ impl Trail {
         ensures ok { OnOk result (self.new ≡ self.old ++ lit ∷ []) }
         ensures err { OnErr result (self.new ≡ self.old) }
     {
-        make_room(&mut self.marks, &mut self.spots, &mut self.reasons, lit)?;
-        let place = self.lits.len();
-        self.lits.push(lit)?;
-        self.marks[lit.index()] = true;
-        self.spots.set(lit.index(), place);
-        self.reasons.set(lit.index(), slot);
+        self.spots.put(lit.index(), short(self.lits.len()))?;
+        self.reasons.put(lit.index(), short(slot))?;
+        self.lits.reserve(1)?;
+        self.marks.put(lit.index(), true)?;
+        self.lits.push_reserved(lit);
         Ok(())
     }
 
@@ -126,7 +126,7 @@ impl Trail {
         ensures { self.new ≡ take (length self.old - 1) self.old }
     {
         if let Some(lit) = self.lits.pop() {
-            self.marks[lit.index()] = false;
+            self.marks.clear(lit.index());
         }
     }
 
@@ -142,15 +142,23 @@ impl Trail {
     pub fn remove(&mut self, lit: Lit)
         ensures { IsTaken lit self.old self.new }
     {
-        let Some(place) = place_of(&self.lits, lit, self.spots.get(lit.index())) else {
+        let Some(place) = place_of(&self.lits, lit, self.spots.get(lit.index()) as usize) else {
             return;
         };
         self.lits.swap_remove(place);
-        self.marks[lit.index()] = false;
+        self.marks.clear(lit.index());
         if let Some(moved) = self.lits.get(place) {
-            self.spots.set(moved.index(), place);
+            // It has a place, so this takes no memory.
+            let _ = self.spots.put(moved.index(), short(place));
         }
     }
+}
+
+// A place or a slot as it is noted.
+fn short(place: usize) -> u32
+    ensures { result ≡ cut place }
+{
+    u32::try_from(place).unwrap_or(u32::MAX)
 }
 
 // The place of a literal, looked for first at the given one.
@@ -176,29 +184,4 @@ fn is_at(lits: &[Lit], lit: Lit, place: usize) -> bool
         Some(other) => other.is(lit),
         None => false,
     }
-}
-
-fn is_marked(marks: &[bool], lit: Lit) -> bool
-    ensures { result ≡ slice_index_or marks.now (pack lit) false }
-{
-    marks.get(lit.index()).copied().unwrap_or(false)
-}
-
-fn make_room(
-    marks: &mut Vec<bool>,
-    spots: &mut Spots,
-    reasons: &mut Spots,
-    lit: Lit,
-) -> Result<(), NoMemory>
-    ensures room { OnOk result (pack lit < vec_len marks.new) }
-    ensures same { (k : ℕ) → slice_index_or marks.new.items k false
-        ≡ slice_index_or marks.old.items k false }
-{
-    let end = lit.index() + 1;
-    if marks.len() < end {
-        spots.grow(end)?;
-        reasons.grow(end)?;
-        marks.resize(end, false)?;
-    }
-    Ok(())
 }
