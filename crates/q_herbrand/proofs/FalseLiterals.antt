@@ -11,7 +11,6 @@ use Rattle.q_certificate.proofs.Folds.{IsIn-last, and-start, and-assoc}
 use Rattle.q_certificate.proofs.LiteralRows.{literals-kept, at-kept, literal-serves, stands-put, literals-put}
 use Rattle.q_certificate.proofs.CircuitParts.{grown-none, grown-then, grown-by, raise-more}
 use Rattle.q_logic.specs.Reversals.{none_of, lowered_one, lowered_by, turned as turned_entry, plain, removed}
-use Rattle.q_herbrand.specs.Inputs.{has_input}
 use Rattle.q_herbrand.specs.Parts.{IsNoneOf, IsLoweredOne, AreLowered}
 use Rattle.q_herbrand.specs.Carried.{IsCarried}
 
@@ -121,12 +120,12 @@ carried-plain old a b new ins tb tb1 tb2 k same within q li lt n s t = record {
       (grown-then old a b (length same) (length within) (length same + length within) n.grown s.grown (omega arith))
       t.grown (omega arith);
   literals = t.literals;
-  at = λ c g v.
+  at = λ U c g v.
       let h : Circuit = none_of c same in
-      let sq = n.serves (has_input ins) c g v in
-      let g1 = at-kept old a ins tb (has_input ins) c n.grown.kept li lt g in
-      let g2 = s.at (has_input ins) c h g1 sq in
-      t.at (has_input ins) (lowered_by h within c) h g2
+      let sq = n.serves U c g v in
+      let g1 = at-kept old a ins tb U c n.grown.kept li lt g in
+      let g2 = s.at U c h g1 sq in
+      t.at U (lowered_by h within c) h g2
       (serves-then _ _ _ (serves-same _ _ (s.grown.kept q n.there).1) sq);
 }
 
@@ -135,7 +134,7 @@ pub carried-turned : (old new : Net) (ins tb tb2 : List (Option ℕ)) (l : Liter
 carried-turned old new ins tb tb2 l Os u = record {
   grown = u.grown;
   literals = u.literals;
-  at = λ c g v. u.at (has_input ins) c g v;
+  at = λ U c g v. u.at U c g v;
 }
 
 pub carried-removed : (old new : Net) (ins tb tb2 : List (Option ℕ)) (v : ℕ) →
@@ -143,7 +142,7 @@ pub carried-removed : (old new : Net) (ins tb tb2 : List (Option ℕ)) (v : ℕ)
 carried-removed old new ins tb tb2 v u = record {
   grown = u.grown;
   literals = u.literals;
-  at = λ c g w. u.at (has_input ins) c g tt;
+  at = λ U c g w. u.at U c g tt;
 }
 
 -- The list from the place before on.

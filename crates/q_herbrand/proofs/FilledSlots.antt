@@ -7,14 +7,14 @@ use Rattle.q_logic.specs.Prelude.{Circuit, input, Reads, replaced, Strategy, cir
 use Rattle.q_logic.proofs.UniversalPivot.{given-reread}
 use Rattle.q_aig.specs.Prelude.{Net, IsLiteral, tree_at, IsNet, Keeps, Serves}
 use Rattle.q_aig.proofs.Substitutes.{serves-same, serves-then}
-use Rattle.q_certificate.specs.Prelude.{look_at, IsGrown}
+use Rattle.q_certificate.specs.Prelude.{look_at, is_there, IsGrown}
 use Rattle.q_certificate.proofs.InputReads.{net-inputs}
-use Rattle.q_certificate.proofs.LiteralRows.{literals-kept, inputs-kept, literals-put}
+use Rattle.q_certificate.proofs.LiteralRows.{literals-kept, literals-put}
 use Rattle.q_certificate.proofs.CircuitParts.{keeps-then}
 use Rattle.q_certificate.proofs.NamedCertificates.{not-given}
 use Rattle.q_herbrand.specs.declared.slots.Slots.{Slots}
 use Rattle.q_herbrand.specs.Under.{under, twice}
-use Rattle.q_herbrand.specs.Slots.{AreSlots, AreOwned, IsRenewed, slot_at, owner_at}
+use Rattle.q_herbrand.specs.Slots.{AreSlots, AreCurrent, AreOwned, IsRenewed, owner_at}
 use Rattle.q_herbrand.proofs.ReplacedInputs.{replaced-under, under-same, twice-serves, replaced-unread, replaced-itself, replaced-other}
 use Rattle.q_herbrand.specs.Inputs.{has_input}
 use Rattle.q_herbrand.specs.Following.{tree_of_literal, standing, AreUnder, Follows, IsReady}
@@ -30,16 +30,19 @@ with-same n t r = ap (λ (b : Bool). cond b t (r n)) (eq-eqb n n refl)
 pub with-other : (n : ℕ) (t : Circuit) (r : ℕ → Circuit) (x : ℕ) → x ≢ n → with_slot n t r x ≡ r x
 with-other n t r x d = ap (λ (b : Bool). cond b t (r x)) (ne_eqb x n d)
 
-module _ (a a1 b : Net) (ins tb tb1 : List (Option ℕ)) (z z1 z2 : Slots) (v lit to k : ℕ) (net : IsNet a) (ready :
-    IsReady a ins tb z) (vl : v < length z.current.items) (hv : has_input ins v ≡ true) (new : IsRenewed a a1 tb
-    tb1 z z1 v lit) (grown : IsGrown a1 b k) (lt : IsLiteral b to) (ec : z2.current.items ≡ z1.current.items) (eo :
+module _ (a a1 b : Net) (ins tb tb1 : List (Option ℕ)) (z z1 z2 : Slots) (v place lit to k : ℕ) (net : IsNet a)
+    (ready : IsReady a ins tb z) (vl : look_at z.current.items v ≡ Some place) (new : IsRenewed a a1 tb tb1 z z1 v
+    lit) (grown : IsGrown a1 b k) (lt : IsLiteral b to) (ec : z2.current.items ≡ z1.current.items) (eo :
     z2.owners.items ≡ z1.owners.items) (ed : z2.definitions.items ≡ set z1.definitions.items
-    (slot_at z.current.items v) (Some to)) where
+    place (Some to)) where
   kept : Keeps a b
   kept = keeps-then a a1 b new.kept grown.kept
 
-  before : slot_at z.current.items v < length z.definitions.items
-  before = ready.slots.there v vl
+  hv : has_input ins v ≡ true
+  hv = sym (ready.current.same v) ∙ ap is_there vl
+
+  before : place < length z.definitions.items
+  before = ready.current.there v place vl
 
   inputs : b.inputs ≡ a.inputs ++ length z.definitions.items ∷ []
   inputs = grown.inputs ∙ new.inputs
@@ -48,31 +51,28 @@ module _ (a a1 b : Net) (ins tb tb1 : List (Option ℕ)) (z z1 z2 : Slots) (v li
   pushed-length = ap length new.definitions ∙ length_push z.definitions.items None
 
   room : length z2.definitions.items ≡ length z.definitions.items + 1
-  room = ap length ed ∙ length-set z1.definitions.items (slot_at z.current.items v) (Some to) ∙ pushed-length
+  room = ap length ed ∙ length-set z1.definitions.items place (Some to) ∙ pushed-length
 
   owners-room : length z2.owners.items ≡ length z.definitions.items + 1
   owners-room = ap length (eo ∙ new.owners) ∙ length_push z.owners.items v
       ∙ ap (λ (n : ℕ). n + 1) ready.slots.room
 
-  current-room : length z2.current.items ≡ length z.current.items
-  current-room = ap length (ec ∙ new.current) ∙ length-set z.current.items v (length z.definitions.items)
-
-  filled-is : look_at z2.definitions.items (slot_at z.current.items v) ≡ Some to
-  filled-is = ap (λ (xs : List (Option ℕ)). look_at xs (slot_at z.current.items v)) ed
-      ∙ get_or-set_same z1.definitions.items (slot_at z.current.items v) (Some to) None
+  filled-is : look_at z2.definitions.items place ≡ Some to
+  filled-is = ap (λ (xs : List (Option ℕ)). look_at xs place) ed
+      ∙ get_or-set_same z1.definitions.items place (Some to) None
       (let p = pushed-length in let q = before in omega arith)
 
   new-is : look_at z2.definitions.items (length z.definitions.items) ≡ None
   new-is = ap (λ (xs : List (Option ℕ)). look_at xs (length z.definitions.items)) ed
-      ∙ get_or-set_other z1.definitions.items (slot_at z.current.items v) (length z.definitions.items) (Some to) None
+      ∙ get_or-set_other z1.definitions.items place (length z.definitions.items) (Some to) None
       (λ e. let q = before in absurd (omega arith))
       ∙ ap (λ (xs : List (Option ℕ)). look_at xs (length z.definitions.items)) new.definitions
       ∙ get_or_push z.definitions.items None None (length z.definitions.items) refl
 
-  other-is-kept : (s : ℕ) → s ≢ slot_at z.current.items v → s < length z.definitions.items →
+  other-is-kept : (s : ℕ) → s ≢ place → s < length z.definitions.items →
       look_at z2.definitions.items s ≡ look_at z.definitions.items s
   other-is-kept s n h = ap (λ (xs : List (Option ℕ)). look_at xs s) ed
-      ∙ get_or-set_other z1.definitions.items (slot_at z.current.items v) s (Some to) None n
+      ∙ get_or-set_other z1.definitions.items place s (Some to) None n
       ∙ ap (λ (xs : List (Option ℕ)). look_at xs s) new.definitions
       ∙ get_or_append_left z.definitions.items (None ∷ []) None s h
 
@@ -84,29 +84,31 @@ module _ (a a1 b : Net) (ins tb tb1 : List (Option ℕ)) (z z1 z2 : Slots) (v li
   owner-new = ap (λ (xs : List ℕ). owner_at xs (length z.definitions.items)) (eo ∙ new.owners)
       ∙ get_or_push z.owners.items v 0 (length z.definitions.items) ready.slots.room
 
-  slot-new : slot_at z2.current.items v ≡ length z.definitions.items
-  slot-new = ap (λ (xs : List ℕ). slot_at xs v) (ec ∙ new.current)
-      ∙ get_or-set_same z.current.items v (length z.definitions.items) 0 vl
+  slot-new : look_at z2.current.items v ≡ Some (length z.definitions.items)
+  slot-new = ap (λ (xs : List (Option ℕ)). look_at xs v) ec ∙ new.current v
+      ∙ ap (λ (q : Bool). cond q (Some (length z.definitions.items)) (look_at z.current.items v)) (eq-eqb v v refl)
 
-  slot-kept : (w : ℕ) → w ≢ v → slot_at z2.current.items w ≡ slot_at z.current.items w
-  slot-kept w n = ap (λ (xs : List ℕ). slot_at xs w) (ec ∙ new.current)
-      ∙ get_or-set_other z.current.items v w (length z.definitions.items) 0 n
+  slot-kept : (w : ℕ) → w ≢ v → look_at z2.current.items w ≡ look_at z.current.items w
+  slot-kept w n = ap (λ (xs : List (Option ℕ)). look_at xs w) ec ∙ new.current w
+      ∙ ap (λ (q : Bool). cond q (Some (length z.definitions.items)) (look_at z.current.items w)) (ne_eqb w v n)
 
   -- the slots of other variables are other ones
-  apart : (w : ℕ) → w < length z.current.items → w ≢ v → slot_at z.current.items w ≢ slot_at z.current.items v
-  apart w wl n e = n (sym (ready.slots.owned w wl) ∙ ap (owner_at z.owners.items) e ∙ ready.slots.owned v vl)
+  apart : (w s : ℕ) → look_at z.current.items w ≡ Some s → w ≢ v → s ≢ place
+  apart w s wl n e =
+      n (sym (ready.current.owned w s wl) ∙ ap (owner_at z.owners.items) e ∙ ready.current.owned v place vl)
 
   -- an empty slot of v is the one that stands for it
   empty-of : (s : ℕ) → s < length z.definitions.items → look_at z.definitions.items s ≡ None →
-      owner_at z.owners.items s ≡ v → s ≡ slot_at z.current.items v
-  empty-of s h e o = sym (ready.slots.last s h e).1 ∙ ap (slot_at z.current.items) o
+      owner_at z.owners.items s ≡ v → s ≡ place
+  empty-of s h e o =
+      same_Some s place (sym (ready.current.last s h e) ∙ ap (look_at z.current.items) o ∙ vl)
 
   -- an empty slot was one before, or is the new one
   empty-before : (s : ℕ) → s < length z2.definitions.items → look_at z2.definitions.items s ≡ None →
-      ((s < length z.definitions.items) × (s ≢ slot_at z.current.items v) ×
+      ((s < length z.definitions.items) × (s ≢ place) ×
       (look_at z.definitions.items s ≡ None)) ⊎ (s ≡ length z.definitions.items)
   empty-before s h e = elim (cases_lt s (length z.definitions.items)) [
-    | inl l ↦ elim (cases_eq s (slot_at z.current.items v)) [
+    | inl l ↦ elim (cases_eq s place) [
       | inl q ↦ absurd (let f : None ≡ Some to = sym e ∙ ap (look_at z2.definitions.items) q ∙ filled-is in cc)
       | inr n ↦ inl (l, n, sym (other-is-kept s n l) ∙ e)
     ]
@@ -116,7 +118,7 @@ module _ (a a1 b : Net) (ins tb tb1 : List (Option ℕ)) (z z1 z2 : Slots) (v li
   slots-next : AreSlots b z2
   slots-next = record {
     room = owners-room ∙ sym room;
-    literals = λ s l e. elim (cases_eq s (slot_at z.current.items v)) [
+    literals = λ s l e. elim (cases_eq s place) [
       | inl q ↦ subst (IsLiteral b) (same_Some to l (sym filled-is ∙ ap (look_at z2.definitions.items) (sym q) ∙ e)) lt
       | inr n ↦ elim (cases_lt s (length z.definitions.items)) [
         | inl h ↦ (kept l (ready.slots.literals s l (sym (other-is-kept s n h) ∙ e))).0
@@ -124,44 +126,6 @@ module _ (a a1 b : Net) (ins tb tb1 : List (Option ℕ)) (z z1 z2 : Slots) (v li
       ]
     ];
     names = names;
-    there = λ w wl. elim (cases_eq w v) [
-      | inl q ↦ let f : slot_at z2.current.items w ≡ length z.definitions.items =
-          ap (slot_at z2.current.items) q ∙ slot-new in let r = room in omega arith
-      | inr n ↦
-          let f = slot-kept w n in
-          let h = ready.slots.there w (let c = current-room in omega arith) in
-          let r = room in
-          omega arith
-    ];
-    empty = λ w wl. elim (cases_eq w v) [
-      | inl q ↦ ap (look_at z2.definitions.items) (ap (slot_at z2.current.items) q ∙ slot-new) ∙ new-is
-      | inr n ↦
-          let wl2 : w < length z.current.items = (let c = current-room in omega arith) in
-          ap (look_at z2.definitions.items) (slot-kept w n)
-          ∙ other-is-kept (slot_at z.current.items w) (apart w wl2 n) (ready.slots.there w wl2)
-          ∙ ready.slots.empty w wl2
-    ];
-    owned = λ w wl. elim (cases_eq w v) [
-      | inl q ↦ ap (owner_at z2.owners.items) (ap (slot_at z2.current.items) q ∙ slot-new) ∙ owner-new ∙ sym q
-      | inr n ↦
-          let wl2 : w < length z.current.items = (let c = current-room in omega arith) in
-          ap (owner_at z2.owners.items) (slot-kept w n)
-          ∙ owner-kept (slot_at z.current.items w) (ready.slots.there w wl2) ∙ ready.slots.owned w wl2
-    ];
-    last = λ s h e. elim (empty-before s h e) [
-      | inl p ↦
-          let q = ready.slots.last s p.0 p.2 in
-          let o = owner-kept s p.0 in
-          let n : owner_at z.owners.items s ≢ v = λ w. p.1 (empty-of s p.0 p.2 w) in (
-            (let c = current-room in let q0 = q.0 in omega arith),
-            ap (slot_at z2.current.items) o ∙ slot-kept (owner_at z.owners.items s) n ∙ q.1,
-          )
-      | inr p ↦
-          let o : owner_at z2.owners.items s ≡ v = ap (owner_at z2.owners.items) p ∙ owner-new in (
-            (let c = current-room in omega arith),
-            ap (slot_at z2.current.items) o ∙ slot-new ∙ sym p,
-          )
-    ];
   }
     where
       none-past : (s l : ℕ) → length z.definitions.items ≤ s → look_at z2.definitions.items s ≡ Some l → ⊥
@@ -191,16 +155,55 @@ module _ (a a1 b : Net) (ins tb tb1 : List (Option ℕ)) (z z1 z2 : Slots) (v li
                 omega arith
           ])
 
+  -- the new slot is the one of v, and other variables keep theirs
+  slot-of : (w s : ℕ) → look_at z2.current.items w ≡ Some s →
+      ((w ≡ v) × (s ≡ length z.definitions.items)) ⊎ ((w ≢ v) × (look_at z.current.items w ≡ Some s))
+  slot-of w s e = elim (cases_eq w v) [
+    | inl q ↦ inl (
+      q,
+      same_Some s (length z.definitions.items) (sym e ∙ ap (look_at z2.current.items) q ∙ slot-new),
+    )
+    | inr n ↦ inr (n, sym (slot-kept w n) ∙ e)
+  ]
+
+  current-next : AreCurrent ins z2
+  current-next = record {
+    same = λ w. elim (cases_eq w v) [
+      | inl q ↦ ap is_there (ap (look_at z2.current.items) q ∙ slot-new) ∙ sym (ap (has_input ins) q ∙ hv)
+      | inr n ↦ ap is_there (slot-kept w n) ∙ ready.current.same w
+    ];
+    there = λ w s e. elim (slot-of w s e) [
+      | inl q ↦ let f = q.1 in let r = room in omega arith
+      | inr q ↦ let f = ready.current.there w s q.1 in let r = room in omega arith
+    ];
+    empty = λ w s e. elim (slot-of w s e) [
+      | inl q ↦ ap (look_at z2.definitions.items) q.1 ∙ new-is
+      | inr q ↦ other-is-kept s (apart w s q.1 q.0) (ready.current.there w s q.1) ∙ ready.current.empty w s q.1
+    ];
+    owned = λ w s e. elim (slot-of w s e) [
+      | inl q ↦ ap (owner_at z2.owners.items) q.1 ∙ owner-new ∙ sym q.0
+      | inr q ↦ owner-kept s (ready.current.there w s q.1) ∙ ready.current.owned w s q.1
+    ];
+    last = λ s h e. elim (empty-before s h e) [
+      | inl p ↦
+          let n : owner_at z.owners.items s ≢ v = λ w. p.1 (empty-of s p.0 p.2 w) in
+          ap (look_at z2.current.items) (owner-kept s p.0) ∙ slot-kept (owner_at z.owners.items s) n
+          ∙ ready.current.last s p.0 p.2
+      | inr p ↦
+          let o : owner_at z2.owners.items s ≡ v = ap (owner_at z2.owners.items) p ∙ owner-new in
+          ap (look_at z2.current.items) o ∙ slot-new ∙ ap Some (sym p)
+    ];
+  }
+
   pub ready-next : IsReady b ins tb1 z2
   ready-next = record {
     slots = slots-next;
+    current = current-next;
     owned = owned;
     literals = literals-kept a b ins kept ready.literals;
-    at = inputs-kept a b ins (has_input ins) kept ready.literals ready.at;
     circuits = literals-put b tb tb1 v (Some lit) new.circuits
         (λ l e. subst (IsLiteral b) (same_Some lit l e) (grown.kept lit new.there).0)
         (literals-kept a b tb kept ready.circuits);
-    within = λ w h. let l = ready.within w h in let c = current-room in omega arith;
   }
     where
       owned : AreOwned b.inputs ins z2
@@ -282,7 +285,7 @@ module _ (a a1 b : Net) (ins tb tb1 : List (Option ℕ)) (z z1 z2 : Slots) (v li
             ∙ sym (ap input (ap (owner_at z2.owners.items) p ∙ owner-new))
       ]
 
-      filled-before : (s l : ℕ) → s ≢ slot_at z.current.items v → look_at z2.definitions.items s ≡ Some l →
+      filled-before : (s l : ℕ) → s ≢ place → look_at z2.definitions.items s ≡ Some l →
           (s < length z.definitions.items) × (look_at z.definitions.items s ≡ Some l)
       filled-before s l n e = elim (cases_lt s (length z.definitions.items)) [
         | inl h ↦ (h, sym (other-is-kept s n h) ∙ e)
@@ -296,13 +299,13 @@ module _ (a a1 b : Net) (ins tb tb1 : List (Option ℕ)) (z z1 z2 : Slots) (v li
       ]
 
       next-filled : (s l : ℕ) → look_at z2.definitions.items s ≡ Some l → next s ≡ twice (under next (tree_at b l))
-      next-filled s l e = elim (cases_eq s (slot_at z.current.items v)) [
+      next-filled s l e = elim (cases_eq s place) [
         | inl q ↦
             let tl : to ≡ l = same_Some to l (sym filled-is ∙ ap (look_at z2.definitions.items) (sym q) ∙ e) in
-            ap next q ∙ next-is (slot_at z.current.items v) before
+            ap next q ∙ next-is place before
             ∙ ap (replaced v (twice (under now (tree_at b to))))
-            (w.resolved.empty (slot_at z.current.items v) before (ready.slots.empty v vl)
-            ∙ ap input (ready.slots.owned v vl))
+            (w.resolved.empty place before (ready.current.empty v place vl)
+            ∙ ap input (ready.current.owned v place vl))
             ∙ replaced-itself v (twice (under now (tree_at b to))) ∙ ap twice (sym next-to)
             ∙ ap (λ (m : ℕ). twice (under next (tree_at b m))) tl
         | inr n ↦

@@ -1,8 +1,6 @@
 -- The draft before any entry.
-use Rattle.std.proofs.Common.{◌≡◌, ◌⊎◌, ℕ, ◌+◌, ◌<◌, ◌≤◌, Bool, true, false, List, [], length, get_or, inl, inr, arith, refl, sym, ap, ap₂, ◌∙◌, subst, Option, Some, None, map}
-use Rattle.std.proofs.lemmas.List.{get_or_past}
-use Rattle.std.proofs.lemmas.Bool.{cases_lt}
-use Rattle.q_logic.specs.Prelude.{Circuit, constant, input, inverter, conjunction, NamedOutput, CertificateView, trees_of, Strategy, given, or_input, Lawful}
+use Rattle.std.proofs.Common.{◌≡◌, ◌⊎◌, ℕ, ◌+◌, ◌<◌, ◌≤◌, Bool, true, List, [], length, get_or, inl, inr, arith, refl, sym, ap, ◌∙◌, subst, Option, Some, None, map}
+use Rattle.q_logic.specs.Prelude.{Circuit, input, NamedOutput, CertificateView, trees_of, Strategy, given, or_input, Lawful}
 use Rattle.q_logic.specs.Exchanging.{exchanged}
 use Rattle.q_logic.specs.Reversals.{Reversal}
 use Rattle.q_logic.proofs.Exchanged.{exchanged-universal}
@@ -15,85 +13,89 @@ use Rattle.q_certificate.proofs.NamedCertificates.{outputs-read}
 use Rattle.q_certificate.proofs.LiteralRows.{literals-kept}
 use Rattle.q_herbrand.specs.declared.slots.Slots.{Slots}
 use Rattle.q_herbrand.specs.Under.{under}
-use Rattle.q_herbrand.specs.Slots.{IsBegun, slot_at, owner_at}
+use Rattle.q_herbrand.specs.Slots.{IsBegun, owner_at}
 use Rattle.q_herbrand.specs.declared.drafting.Draft.{Draft}
 use Rattle.q_herbrand.specs.Inputs.{has_input, AreInputs}
 use Rattle.q_herbrand.specs.Covered.{weights}
 use Rattle.q_herbrand.specs.Following.{tree_of_literal, Follows, IsReady, AreTaken}
-use Rattle.q_herbrand.specs.Drafted.{either, AreMerged, IsCopiedInto, IsDrafted}
+use Rattle.q_herbrand.specs.Drafted.{either, AreMerged, IsByPlaces, variable_at, IsCopiedInto, IsDrafted}
 use Rattle.q_herbrand.proofs.InputEntries.{inputs-literals, inputs-at}
 
-in-row : (ins : List (Option ℕ)) (x : ℕ) → is_there (look_at ins x) ≡ true → x < length ins
-in-row ins x h = elim (cases_lt x (length ins)) [
-  | inl lt ↦ lt
-  | inr le ↦ absurd (let e : false ≡ true = sym (ap is_there (get_or_past ins x None le)) ∙ h in cc)
-]
-
-pub begun-ready : (a : Net) (names : List ℕ) (ins row : List (Option ℕ)) (z : Slots) → AreInputs names ins →
-    a.inputs ≡ names → AreLiterals a row → IsBegun (length ins) z → IsReady a ins row z
-begun-ready a names ins row z i e l b =
-    let n : length z.definitions.items ≡ length ins = b.definitions_room in
-    let m : length z.owners.items ≡ length ins = b.owners_room in
-    let k : length z.current.items ≡ length ins = b.current_room in
+pub begun-ready : (named a : Net) (names : List ℕ) (ins row : List (Option ℕ)) (z : Slots) → AreInputs names ins →
+    named.inputs ≡ names → IsByPlaces named a → AreLiterals named row → IsBegun names z → IsReady a ins row z
+begun-ready named a names ins row z i e p l b =
+    let n : length z.definitions.items ≡ length names = b.room in
+    let m : length z.owners.items ≡ length names = ap length b.owners in
     record {
       slots = record {
         room = omega arith;
         literals = λ x q h. absurd (let f : None ≡ Some q = sym (b.definitions x) ∙ h in cc);
-        names = λ j lt. let r = named j lt in omega arith;
-        there = λ v lt. let s = b.current v (omega arith) in omega arith;
-        empty = λ v lt. b.definitions (slot_at z.current.items v);
-        owned = λ v lt. ap (owner_at z.owners.items) (b.current v (omega arith)) ∙ b.owners v (omega arith);
-        last = λ s lt h.
-            let o = b.owners s (omega arith) in
-            ((let q = o in omega arith), ap (slot_at z.current.items) o ∙ b.current s (omega arith));
+        names = λ j lt. let r = placed j lt in omega arith;
       };
-      owned = λ j lt. ap (has_input ins) (b.owners (get_or a.inputs j 0) (named j lt)) ∙ here j lt;
-      literals = inputs-literals a names ins i e;
-      at = inputs-at a names ins i e;
-      circuits = l;
-      within = λ v h. let r = in-row ins v h in omega arith;
+      current = record {
+        same = λ v. same v (look_at z.current.items v) refl (look_at ins v) refl;
+        there = λ v s h. let r = (b.named v s h).0 in omega arith;
+        empty = λ v s h. b.definitions s;
+        owned = λ v s h. ap (λ (xs : List ℕ). owner_at xs s) b.owners ∙ (b.named v s h).1;
+        last = λ s lt h.
+            ap (look_at z.current.items) (ap (λ (xs : List ℕ). owner_at xs s) b.owners) ∙ b.current s (omega arith);
+      };
+      owned = λ j lt.
+          let r = placed j lt in
+          ap (has_input ins) (ap (owner_at z.owners.items) r.1 ∙ ap (λ (xs : List ℕ). owner_at xs j) b.owners)
+          ∙ i.all j r.0;
+      literals = λ x k h. (p.trees k (inputs-literals named names ins i e x k h)).0;
+      circuits = λ x k h. (p.trees k (l x k h)).0;
     }
   where
-    here : (j : ℕ) → j < length a.inputs → has_input ins (get_or a.inputs j 0) ≡ true
-    here j lt = subst (λ (xs : List ℕ). has_input ins (get_or xs j 0) ≡ true) (sym e)
-        (i.all j (subst (λ (xs : List ℕ). j < length xs) e lt))
+    placed : (j : ℕ) → j < length a.inputs → (j < length names) × (get_or a.inputs j 0 ≡ j)
+    placed j lt =
+        let r : length a.inputs ≡ length named.inputs = p.inputs.room in
+        let k : length named.inputs ≡ length names = ap length e in
+        ((omega arith), p.inputs.each j (omega arith))
 
-    named : (j : ℕ) → j < length a.inputs → get_or a.inputs j 0 < length ins
-    named j lt = in-row ins (get_or a.inputs j 0) (here j lt)
-
-under-inputs : (t : Circuit) → under (λ (x : ℕ). input x) t ≡ t
-under-inputs (constant b) = refl
-under-inputs (input x) = refl
-under-inputs (inverter t) = ap inverter (under-inputs t)
-under-inputs (conjunction s t) = ap₂ conjunction (under-inputs s) (under-inputs t)
+    same : (v : ℕ) (o : Option ℕ) → look_at z.current.items v ≡ o → (q : Option ℕ) → look_at ins v ≡ q →
+        is_there (look_at z.current.items v) ≡ is_there (look_at ins v)
+    same v (Some s) f q g =
+        let r = b.named v s f in ap is_there f ∙ sym (i.all s r.0) ∙ ap (has_input ins) r.1
+    same v None f None g = ap is_there f ∙ sym (ap is_there g)
+    same v None f (Some k) g =
+        let r = i.sound v k g in
+        let h : None ≡ Some r.0 = sym f ∙ ap (look_at z.current.items) (sym r.2) ∙ b.current r.0 r.1 in
+        absurd (cc)
 
 -- The row has a circuit or an input for what is covered.
-begun-under : (a : Net) (x : ℕ) (U : Bool) (o : Option Circuit) (m n p : Option ℕ) → p ≡ either m n →
-    Stands a o m → (given o ≡ true) ⊎ (U ≡ true) → (U ≡ true → (l : ℕ) × (n ≡ Some l) × (tree_at a l ≡ input x)) →
-    (t : Circuit) × (tree_of_literal a p ≡ Some t) × Serves (under (λ (y : ℕ). input y) t) (or_input x o)
-begun-under a x U (Some t) (Some l) n p e s v f =
-    (tree_at a l, ap (tree_of_literal a) e, serves-then _ _ _ (serves-same _ _ (under-inputs (tree_at a l))) s)
-begun-under a x U (Some t) None n p e s v f = absurd s
-begun-under a x U None (Some l) n p e s v f = absurd s
-begun-under a x U None None n p e s (inl g) f = absurd (cc)
-begun-under a x U None None n p e s (inr g) f =
-    let i = f g in (
+begun-under : (named a : Net) (x : ℕ) (U : Bool) (o : Option Circuit) (m n p : Option ℕ) → IsByPlaces named a →
+    ((l : ℕ) → p ≡ Some l → IsLiteral named l) → p ≡ either m n → Stands named o m →
+    (given o ≡ true) ⊎ (U ≡ true) → (U ≡ true → (l : ℕ) × (n ≡ Some l) × (tree_at named l ≡ input x)) →
+    (t : Circuit) × (tree_of_literal a p ≡ Some t) × Serves (under (variable_at named.inputs) t) (or_input x o)
+begun-under named a x U (Some t) (Some l) n p b k e s v f = (
+  tree_at a l,
+  ap (tree_of_literal a) e,
+  serves-then _ _ _ (serves-same _ _ (b.trees l (k l e)).1) s,
+)
+begun-under named a x U (Some t) None n p b k e s v f = absurd s
+begun-under named a x U None (Some l) n p b k e s v f = absurd s
+begun-under named a x U None None n p b k e s (inl g) f = absurd (cc)
+begun-under named a x U None None n p b k e s (inr g) f =
+    let i = f g in
+    let q : p ≡ Some i.0 = e ∙ i.1 in (
       tree_at a i.0,
-      ap (tree_of_literal a) (e ∙ i.1),
-      serves-same _ _ (under-inputs (tree_at a i.0) ∙ i.2),
+      ap (tree_of_literal a) q,
+      serves-same _ _ ((b.trees i.0 (k i.0 q)).1 ∙ i.2),
     )
 
-pub begun-follows : (a : Net) (names : List ℕ) (ins tb row : List (Option ℕ)) (z : Slots) (c : Strategy) →
-    AreInputs names ins → a.inputs ≡ names → AreMerged tb ins row → IsAt a ins tb (has_input ins) c →
-    IsBegun (length ins) z → Follows a ins row z c
-begun-follows a names ins tb row z c i e m at b = record {
-  resolution = λ (x : ℕ). input x;
+pub begun-follows : (named a : Net) (names : List ℕ) (ins tb row : List (Option ℕ)) (z : Slots) (c : Strategy) →
+    named.inputs ≡ names → IsByPlaces named a → AreLiterals named row → AreMerged tb ins row →
+    IsAt named ins tb (has_input ins) c → IsBegun names z → Follows a ins row z c
+begun-follows named a names ins tb row z c e p l m at b = record {
+  resolution = variable_at named.inputs;
   resolved = record {
-    empty = λ s lt h. ap input (sym (b.owners s (let n = b.definitions_room in omega arith)));
-    filled = λ s l h. absurd (let f : None ≡ Some l = sym (b.definitions s) ∙ h in cc);
+    empty = λ s lt h. ap (λ (xs : List ℕ). input (get_or xs s 0)) (e ∙ sym b.owners);
+    filled = λ s k h. absurd (let f : None ≡ Some k = sym (b.definitions s) ∙ h in cc);
   };
-  circuits = λ x h. begun-under a x (has_input ins x) (c x) (look_at tb x) (look_at ins x) (look_at row x) (m x)
-      (at.circuits x) h (at.inputs x);
+  circuits = λ x h. begun-under named a x (has_input ins x) (c x) (look_at tb x) (look_at ins x) (look_at row x) p
+      (l x) (m x) (at.circuits x) h (at.inputs x);
 }
 
 merged-literals : (a : Net) (tb ins row : List (Option ℕ)) → AreMerged tb ins row → AreLiterals a tb →
@@ -138,25 +140,28 @@ copied-into old new ins tb row gave os marks gates i eo outs marked copied place
           (tb, merged, subst (IsAt new ins tb (has_input ins)) same at0);
     }
 
-pub drafted : (opened base copy : Net) (ins row : List (Option ℕ)) (z : Slots) (gave : CertificateView) (rs :
-    List Reversal) (d : Draft) → AreInputs opened.inputs ins → base.inputs ≡ opened.inputs → base.gates ≡ [] →
-    IsCopiedInto base copy ins gave row → IsBegun (length ins) z → d.tables.inputs.items ≡ ins →
-    AreTaken copy d.aig ins row d.tables.circuits.items z d.slots rs → IsDrafted opened ins gave rs d
-drafted opened base copy ins row z gave rs d i ei eg c b same t =
+pub drafted : (opened base named draft : Net) (ins row : List (Option ℕ)) (z : Slots) (gave : CertificateView) (rs :
+    List Reversal) (d : Draft) → base.inputs ≡ opened.inputs → base.gates ≡ [] →
+    IsCopiedInto base named ins gave row → IsByPlaces named draft → IsBegun opened.inputs z →
+    d.tables.inputs.items ≡ ins → AreTaken draft d.aig ins row d.tables.circuits.items z d.slots rs →
+    IsDrafted opened ins gave rs d
+drafted opened base named draft ins row z gave rs d ei eg c p b same t =
     let zero : length base.gates ≡ 0 = ap length eg in
+    let placed : length draft.gates ≡ length named.gates = p.gates in
     record {
       inputs = same;
       ready = t.ready;
       gates =
-          let x : length copy.gates ≤ length base.gates + length gave.gates = c.gates in
-          let y : length d.aig.gates ≤ length copy.gates + weights rs = t.gates in
+          let x : length named.gates ≤ length base.gates + length gave.gates = c.gates in
+          let y : length d.aig.gates ≤ length draft.gates + weights rs = t.gates in
           omega arith;
       cones = λ marks h.
           let x = c.cones marks h in
-          let y : length d.aig.gates ≤ length copy.gates + weights rs = t.gates in
+          let y : length d.aig.gates ≤ length draft.gates + weights rs = t.gates in
           omega arith;
       follows = λ P law ex cov.
           let a = c.at P law ex in
           t.follows (trees_of gave)
-          (begun-follows copy opened.inputs ins a.0 row z (trees_of gave) i (c.inputs ∙ ei) a.1 a.2 b) cov;
+          (begun-follows named draft opened.inputs ins a.0 row z (trees_of gave) (c.inputs ∙ ei) p c.literals a.1 a.2 b)
+          cov;
     }

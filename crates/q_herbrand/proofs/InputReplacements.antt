@@ -7,19 +7,19 @@ use Rattle.q_logic.specs.Reversals.{Reversal, added, freshened, lifted}
 use Rattle.q_logic.proofs.Common.{Reads-all_of, none_or_some}
 use Rattle.q_aig.specs.Prelude.{Net, IsLiteral, tree_at, operand_of, IsNet, Serves}
 use Rattle.q_aig.proofs.Substitutes.{serves-same, serves-then}
-use Rattle.q_certificate.specs.Prelude.{OutersCovered, look_at, AreLiterals, IsAt, IsGrown, IsAllOf, IsRaised}
+use Rattle.q_certificate.specs.Prelude.{OutersCovered, look_at, is_there, AreLiterals, IsGrown, IsAllOf, IsRaised}
 use Rattle.q_certificate.proofs.InputReads.{net-inputs}
-use Rattle.q_certificate.proofs.LiteralRows.{inputs-kept, literals-kept, literals-put}
+use Rattle.q_certificate.proofs.LiteralRows.{literals-kept, literals-put}
 use Rattle.q_certificate.proofs.CircuitParts.{grown-none, keeps-then, raise-more, constant-there, false-serves, same-gates}
 use Rattle.q_certificate.proofs.NamedCertificates.{not-given}
 use Rattle.q_herbrand.specs.declared.slots.Slots.{Slots}
 use Rattle.q_herbrand.specs.Under.{under}
-use Rattle.q_herbrand.specs.Slots.{IsRenewed, slot_at}
+use Rattle.q_herbrand.specs.Slots.{IsRenewed}
 use Rattle.q_herbrand.proofs.ReplacedInputs.{under-same, Reads-through, serves-under}
 use Rattle.q_herbrand.specs.Inputs.{has_input}
 use Rattle.q_herbrand.specs.Covered.{EntryCovered, OutersClear}
 use Rattle.q_herbrand.specs.Following.{tree_of_literal, standing, AreUnder, Follows, IsReady, IsTaken}
-use Rattle.q_herbrand.proofs.SlotCircuits.{standing-at, under-covered, all-under, raised-under}
+use Rattle.q_herbrand.proofs.SlotCircuits.{no_inputs, standing-at, under-covered, all-under, raised-under}
 use Rattle.q_herbrand.proofs.FilledSlots.{with_slot, with-same, with-other, ready-next, follows-next}
 
 pub renewed-literals : (a b : Net) (tb tb1 : List (Option ℕ)) (z z1 : Slots) (v l : ℕ) → AreLiterals a tb →
@@ -27,33 +27,31 @@ pub renewed-literals : (a b : Net) (tb tb1 : List (Option ℕ)) (z z1 : Slots) (
 renewed-literals a b tb tb1 z z1 v l h r = literals-put b tb tb1 v (Some l) r.circuits
     (λ k e. subst (IsLiteral b) (same_Some l k e) r.there) (literals-kept a b tb r.kept h)
 
--- An entry on a variable that is no input asks for what cannot be.
+-- An entry on a variable that has no slot asks for what cannot be.
 pub taken-absent : (a : Net) (ins tb : List (Option ℕ)) (z : Slots) (r : Reversal) (v : ℕ) → IsReady a ins tb z →
     ((c : Strategy) → EntryCovered (has_input ins) r c → has_input ins v ≡ true) →
-    ((has_input ins v ≡ false) ⊎ (length z.current.items ≤ v)) → IsTaken a a ins tb tb z z r
+    look_at z.current.items v ≡ None → IsTaken a a ins tb tb z z r
 taken-absent a ins tb z r v q f h = record {
   ready = q;
   gates = omega arith;
-  follows = λ c w v o. absurd (none (f c v) h);
+  follows = λ c w u o.
+      let e : false ≡ true = sym (ap is_there h) ∙ q.current.same v ∙ f c u in
+      absurd (cc);
 }
-  where
-    none : has_input ins v ≡ true → (has_input ins v ≡ false) ⊎ (length z.current.items ≤ v) → ⊥
-    none y (inl n) = let f : true ≡ false = sym y ∙ n in cc
-    none y (inr n) = let l = q.within v y in omega arith
 
-pub taken-fresh : (a b : Net) (ins tb tb1 : List (Option ℕ)) (z z1 z2 : Slots) (v lit to : ℕ) → IsNet a →
-    IsReady a ins tb z → v < length z.current.items → has_input ins v ≡ true → IsRenewed a b tb tb1 z z1 v lit →
+pub taken-fresh : (a b : Net) (ins tb tb1 : List (Option ℕ)) (z z1 z2 : Slots) (v place lit to : ℕ) → IsNet a →
+    IsReady a ins tb z → look_at z.current.items v ≡ Some place → IsRenewed a b tb tb1 z z1 v lit →
     (operand_of to).node ≡ falsum → (operand_of to).negated ≡ false → z2.current.items ≡ z1.current.items →
     z2.owners.items ≡ z1.owners.items →
-    z2.definitions.items ≡ set z1.definitions.items (slot_at z.current.items v) (Some to) →
+    z2.definitions.items ≡ set z1.definitions.items place (Some to) →
     IsTaken a b ins tb tb1 z z2 (freshened v)
-taken-fresh a b ins tb tb1 z z1 z2 v lit to net q vl hv new en ef ec eo ed =
+taken-fresh a b ins tb tb1 z z1 z2 v place lit to net q vl new en ef ec eo ed =
     let lt : IsLiteral b to = constant-there b to en in
     let s : Serves (tree_at b to) (constant false) = false-serves b to en ef in
     record {
-      ready = ready-next a b b ins tb tb1 z z1 z2 v lit to 0 net q vl hv new (grown-none b) lt ec eo ed;
+      ready = ready-next a b b ins tb tb1 z z1 z2 v place lit to 0 net q vl new (grown-none b) lt ec eo ed;
       gates = let e : length b.gates ≡ length a.gates = ap length new.gates in omega arith;
-      follows = λ c w cov o. follows-next a b b ins tb tb1 z z1 z2 v lit to 0 net q vl hv new (grown-none b) lt ec eo
+      follows = λ c w cov o. follows-next a b b ins tb tb1 z z1 z2 v place lit to 0 net q vl new (grown-none b) lt ec eo
           ed c w (constant false) o
           (serves-under (with_slot (length z.definitions.items) (input v) w.resolution) _ _ s)
           (λ x r. absurd (s.reads x r));
@@ -64,12 +62,11 @@ reads-lifted : (n : Bool) (t h : Circuit) (x : ℕ) →
 reads-lifted true t h x r = r
 reads-lifted false t h x r = r
 
-module _ (a a1 mid b : Net) (ins tb tb1 : List (Option ℕ)) (z z1 z2 : Slots) (l : Literal) (Os : List Clause) (lit
-    all to : ℕ) (net : IsNet a) (q : IsReady a ins tb z) (vl : l.var < length z.current.items) (hv : has_input ins
-    l.var ≡ true) (new : IsRenewed a a1 tb tb1 z z1 l.var lit) (al : IsAllOf a1 mid ins tb1 Os all) (ra : IsRaised
+module _ (a a1 mid b : Net) (ins tb tb1 : List (Option ℕ)) (z z1 z2 : Slots) (l : Literal) (Os : List Clause) (place
+    lit all to : ℕ) (net : IsNet a) (q : IsReady a ins tb z) (vl : look_at z.current.items l.var ≡ Some place) (new : IsRenewed a a1 tb tb1 z z1 l.var lit) (al : IsAllOf a1 mid ins tb1 Os all) (ra : IsRaised
     mid b l.negative lit all to) (free : (operand_of all).node ≡ falsum → b ≡ mid) (ec : z2.current.items ≡
     z1.current.items) (eo : z2.owners.items ≡ z1.owners.items) (ed : z2.definitions.items ≡ set z1.definitions.items
-    (slot_at z.current.items l.var) (Some to)) where
+    place (Some to)) where
   costs : length b.gates ≤ length a1.gates + (literals_in Os + length Os)
   costs =
       let x : length mid.gates ≤ length a1.gates + (literals_in Os + (length Os - 1)) = al.grown.gates in
@@ -139,14 +136,12 @@ module _ (a a1 mid b : Net) (ins tb tb1 : List (Option ℕ)) (z z1 z2 : Slots) (
           )
     ]
 
-    own-covered : OutersCovered (has_input ins) (standing a1 tb1) Os
-    own-covered O i k j = under-covered now (has_input ins) (standing a1 tb1) c k under-now (covered O i k j)
-
-    at : IsAt a1 ins tb1 (has_input ins) (standing a1 tb1)
-    at = standing-at a1 ins tb1 (has_input ins) (inputs-kept a a1 ins (has_input ins) new.kept q.literals q.at)
+    own-covered : OutersCovered no_inputs (standing a1 tb1) Os
+    own-covered O i k j =
+        under-covered now (has_input ins) no_inputs (standing a1 tb1) c k under-now (covered O i k j)
 
     all-serves : Serves (tree_at mid all) (all_of (standing a1 tb1) Os)
-    all-serves = al.serves (has_input ins) (standing a1 tb1) at own-covered
+    all-serves = al.serves no_inputs (standing a1 tb1) (standing-at a1 ins tb1) own-covered
 
     lit-tree : tree_at mid lit ≡ input (length z.definitions.items)
     lit-tree = (al.grown.kept lit new.there).1 ∙ new.tree
@@ -200,13 +195,13 @@ module _ (a a1 mid b : Net) (ins tb tb1 : List (Option ℕ)) (z z1 z2 : Slots) (
 
   pub taken-added : IsTaken a b ins tb tb1 z z2 (added l Os)
   taken-added = record {
-    ready = ready-next a a1 b ins tb tb1 z z1 z2 l.var lit to (literals_in Os + length Os) net q vl hv new grown
-        ra.there ec eo ed;
+    ready = ready-next a a1 b ins tb tb1 z z1 z2 l.var place lit to (literals_in Os + length Os) net q vl new
+        grown ra.there ec eo ed;
     gates =
         let e : length a1.gates ≡ length a.gates = ap length new.gates in
         let f = costs in
         omega arith;
-    follows = λ c w cov o. follows-next a a1 b ins tb tb1 z z1 z2 l.var lit to (literals_in Os + length Os) net q vl
-        hv new grown ra.there ec eo ed c w (lifted l (all_of c Os)) o (to-serves c w cov.1 cov.2 o)
+    follows = λ c w cov o. follows-next a a1 b ins tb tb1 z z1 z2 l.var place lit to (literals_in Os + length Os) net q
+        vl new grown ra.there ec eo ed c w (lifted l (all_of c Os)) o (to-serves c w cov.1 cov.2 o)
         (to-clear c w cov.1 cov.2 o);
   }

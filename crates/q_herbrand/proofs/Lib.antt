@@ -10,6 +10,8 @@ pub mod SlotCircuits
 pub mod FilledSlots
 pub mod InputReplacements
 pub mod MergedRows
+pub mod InputPlaces
+pub mod FirstSlots
 pub mod FirstDraft
 pub mod ChosenCircuits
 pub mod MadeSteps

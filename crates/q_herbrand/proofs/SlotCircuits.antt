@@ -4,9 +4,9 @@ use Rattle.q_logic.specs.Prelude.{Literal, negation, Clause, IsIn, Circuit, cons
 use Rattle.q_logic.specs.Reversals.{Reversal, none_of, lowered_by, turned, plain, removed, carried, Forth}
 use Rattle.q_aig.specs.Prelude.{Net, tree_at, Keeps, Serves}
 use Rattle.q_aig.proofs.Substitutes.{serves-self, serves-same, serves-then, serves-inverter, serves-conjunction}
-use Rattle.q_certificate.specs.Prelude.{IsCovered, ClauseCovered, OutersCovered, look_at, AreLiterals, InputsAt, IsAt, Stands, IsGrown}
+use Rattle.q_certificate.specs.Prelude.{IsCovered, ClauseCovered, OutersCovered, look_at, AreLiterals, IsAt, Stands, IsGrown}
 use Rattle.q_certificate.proofs.Folds.{serves-disjunction}
-use Rattle.q_certificate.proofs.LiteralRows.{literals-kept, inputs-kept}
+use Rattle.q_certificate.proofs.LiteralRows.{literals-kept}
 use Rattle.q_certificate.proofs.CircuitParts.{raise-more}
 use Rattle.q_herbrand.specs.declared.slots.Slots.{Slots}
 use Rattle.q_herbrand.specs.Under.{under, twice}
@@ -17,10 +17,13 @@ use Rattle.q_herbrand.specs.Covered.{EntryCovered, EntryOwned, weight, weights}
 use Rattle.q_herbrand.specs.Carried.{IsCarried}
 use Rattle.q_herbrand.specs.Following.{tree_of_literal, standing, AreUnder, IsReady, IsTaken, AreTaken}
 
--- The row stands for its own circuits.
-pub standing-at : (a : Net) (ins tb : List (Option ℕ)) (U : ℕ → Bool) → InputsAt a ins U →
-    IsAt a ins tb U (standing a tb)
-standing-at a ins tb U i = record { inputs = i; circuits = λ x. go (look_at tb x) }
+-- no variable is an input
+abbrev pub no_inputs : ℕ → Bool
+no_inputs x = false
+
+-- The row stands for its own circuits. Over slots no variable is an input.
+pub standing-at : (a : Net) (ins tb : List (Option ℕ)) → IsAt a ins tb no_inputs (standing a tb)
+standing-at a ins tb = record { inputs = λ u e. absurd (cc); circuits = λ x. go (look_at tb x) }
   where
     go : (m : Option ℕ) → Stands a (tree_of_literal a m) m
     go None = tt
@@ -40,9 +43,9 @@ restand a ins tb V U r own c at u x h =
     let s = stands-some a (own x) (look_at tb x) w.0 (at.circuits x) w.1 in
     (tree_at a s.0, ap (tree_of_literal a) s.1, serves-then _ _ _ (serves-under r _ _ s.2) w.2)
 
-pub under-covered : (r : ℕ → Circuit) (U : ℕ → Bool) (own c : Strategy) (k : Literal) → AreUnder r U own c →
-    IsCovered U c k → IsCovered U own k
-under-covered r U own c k u h = let w = u k.var h in inl (ap given w.1)
+pub under-covered : (r : ℕ → Circuit) (U V : ℕ → Bool) (own c : Strategy) (k : Literal) → AreUnder r U own c →
+    IsCovered U c k → IsCovered V own k
+under-covered r U V own c k u h = let w = u k.var h in inl (ap given w.1)
 
 -- Under circuits for the slots.
 module _ (r : ℕ → Circuit) (U : ℕ → Bool) (own c : Strategy) (u : AreUnder r U own c) where
@@ -160,21 +163,16 @@ slots-kept a b n z g s = record {
   literals = literals-kept a b z.definitions.items g.kept s.literals;
   names = subst (λ (xs : List ℕ). (i : ℕ) → i < length xs → get_or xs i 0 < length z.definitions.items)
       (sym g.inputs) s.names;
-  there = s.there;
-  empty = s.empty;
-  owned = s.owned;
-  last = s.last;
 }
 
 pub ready-kept : (a b : Net) (n : ℕ) (ins tb tb2 : List (Option ℕ)) (z : Slots) → IsGrown a b n →
     AreLiterals b tb2 → IsReady a ins tb z → IsReady b ins tb2 z
 ready-kept a b n ins tb tb2 z g l q = record {
   slots = slots-kept a b n z g q.slots;
+  current = q.current;
   owned = subst (λ (xs : List ℕ). AreOwned xs ins z) (sym g.inputs) q.owned;
   literals = literals-kept a b ins g.kept q.literals;
-  at = inputs-kept a b ins (has_input ins) g.kept q.literals q.at;
   circuits = l;
-  within = q.within;
 }
 
 pub resolved-kept : (a b : Net) (z : Slots) (r : ℕ → Circuit) → Keeps a b → AreLiterals a z.definitions.items →
@@ -187,7 +185,7 @@ resolved-kept a b z r k l q = record {
 taken-standing : (a b : Net) (ins tb tb2 : List (Option ℕ)) (z : Slots) (e : Reversal) → IsReady a ins tb z →
     IsCarried a b ins tb tb2 e →
     ((r : ℕ → Circuit) (own c : Strategy) → AreUnder r (has_input ins) own c → EntryCovered (has_input ins) e c →
-    EntryOwned e c → EntryCovered (has_input ins) e own × AreUnder r (has_input ins) (carried e own)
+    EntryOwned e c → EntryCovered no_inputs e own × AreUnder r (has_input ins) (carried e own)
     (carried e c)) → IsTaken a b ins tb tb2 z z e
 taken-standing a b ins tb tb2 z e q d f = record {
   ready = ready-kept a b (weight e) ins tb tb2 z d.grown d.literals q;
@@ -197,8 +195,8 @@ taken-standing a b ins tb tb2 z e q d f = record {
       record {
         resolution = w.resolution;
         resolved = resolved-kept a b z w.resolution d.grown.kept q.slots.literals w.resolved;
-        circuits = restand b ins tb2 (has_input ins) (has_input ins) w.resolution (carried e (standing a tb))
-            (carried e c) (d.at (standing a tb) (standing-at a ins tb (has_input ins) q.at) s.0) s.1;
+        circuits = restand b ins tb2 no_inputs (has_input ins) w.resolution (carried e (standing a tb)) (carried e c)
+            (d.at no_inputs (standing a tb) (standing-at a ins tb) s.0) s.1;
       };
 }
 
@@ -206,7 +204,7 @@ pub taken-turned : (a b : Net) (ins tb tb2 : List (Option ℕ)) (z : Slots) (l :
     IsReady a ins tb z → IsCarried a b ins tb tb2 (turned l Os) → IsTaken a b ins tb tb2 z z (turned l Os)
 taken-turned a b ins tb tb2 z l Os q d = taken-standing a b ins tb tb2 z (turned l Os) q d
     (λ r own c u v o. (
-      (λ O i k j. under-covered r (has_input ins) own c k u (v O i k j)),
+      (λ O i k j. under-covered r (has_input ins) no_inputs own c k u (v O i k j)),
       lifted-under r (has_input ins) own c (negation l).negative l.var (all_of own Os) (all_of c Os) u o
           (all-under r (has_input ins) own c u Os v),
     ))
@@ -216,7 +214,7 @@ pub taken-plain : (a b : Net) (ins tb tb2 : List (Option ℕ)) (z : Slots) (l : 
     IsTaken a b ins tb tb2 z z (plain l same within)
 taken-plain a b ins tb tb2 z l same within q d = taken-standing a b ins tb tb2 z (plain l same within) q d
     (λ r own c u v o. (
-      (λ k j. under-covered r (has_input ins) own c k u (v k j)),
+      (λ k j. under-covered r (has_input ins) no_inputs own c k u (v k j)),
       (lowered-under r (has_input ins) own c (none_of own same) (none_of c same) (l ∷ within) u
           (none-under r (has_input ins) own c u same v) o).0,
     ))

@@ -1,14 +1,15 @@
 -- Circuits copied into a graph over slots, and out of it.
-use Rattle.std.specs.Prelude.{◌≡◌, ◌≤◌, ℕ, ◌+◌, Bool, true, false, List, length, Option, Some, None}
-use Rattle.q_logic.specs.Prelude.{Prefix, PrenexFormula, is_existential, CertificateView, trees_of, Lawful, ProofStep, standard}
+use Rattle.std.specs.Prelude.{◌≡◌, ◌≤◌, ◌<◌, ℕ, ◌+◌, Bool, true, false, List, length, slice_index_or, Option, Some, None}
+use Rattle.q_logic.specs.Prelude.{Circuit, input, Prefix, PrenexFormula, is_existential, CertificateView, trees_of, Lawful, ProofStep, standard}
 use Rattle.q_logic.specs.Herbrands.{LawfulHerbrand}
 use Rattle.q_logic.specs.Exchanging.{exchanged}
 use Rattle.q_logic.specs.Reversals.{Reversal, Forth, Reversals as ReversalsOf}
 use Rattle.q_refutation.specs.Refutations.{AreMade}
-use Rattle.q_aig.specs.Prelude.{Net, operand_of, marked_count}
+use Rattle.q_aig.specs.Prelude.{Net, IsLiteral, tree_at, operand_of, marked_count}
 use Rattle.q_certificate.specs.Prelude.{look_at, AreLiterals, IsAt, AreExistentials, copied_operand, HasCones}
 use Rattle.q_herbrand.specs.declared.building.Settled.{Settled}
 use Rattle.q_herbrand.specs.declared.drafting.Draft.{Draft}
+use Rattle.q_herbrand.specs.Under.{under}
 use Rattle.q_herbrand.specs.Inputs.{has_input}
 use Rattle.q_herbrand.specs.Covered.{AreCovered, weights}
 use Rattle.q_herbrand.specs.Following.{Follows, IsReady}
@@ -39,6 +40,22 @@ pub record IsCopiedInto (old new : Net) (ins : List (Option ℕ)) (gave : Certif
   pub at : (P : Prefix) → Lawful (exchanged P) (trees_of gave) →
       ((x : ℕ) → is_existential P x ≡ true → has_input ins x ≡ true) → (tb : List (Option ℕ)) ×
       AreMerged tb ins row × IsAt new ins tb (has_input ins) (trees_of gave)
+
+-- so many inputs, each named by its place
+pub record AreByPlaces (n : ℕ) (names : List ℕ) : Type 0 where
+  pub room : length names ≡ n
+  pub each : (i : ℕ) → i < n → slice_index_or names i 0 ≡ i
+
+-- the input that is named by the variable of a place
+abbrev pub variable_at : List ℕ → ℕ → Circuit
+variable_at names i = input (slice_index_or names i 0)
+
+-- inputs are named by their places; with the variables in place of these, each literal stands for what it stood for
+pub record IsByPlaces (named new : Net) : Type 0 where
+  pub inputs : AreByPlaces (length named.inputs) new.inputs
+  pub gates : length new.gates ≡ length named.gates
+  pub trees : (l : ℕ) → IsLiteral named l →
+      IsLiteral new l × (under (variable_at named.inputs) (tree_at new l) ≡ tree_at named l)
 
 -- the draft of the circuits, with the entries taken
 pub record IsDrafted (opened : Net) (ins : List (Option ℕ)) (gave : CertificateView) (rs : List Reversal) (d :

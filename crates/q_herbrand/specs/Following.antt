@@ -1,12 +1,12 @@
 -- Circuits over slots, and the strategy that they stand for.
-use Rattle.std.specs.Prelude.{◌≡◌, ◌≤◌, ◌<◌, ◌⊎◌, ℕ, ◌+◌, Bool, true, List, length, Option, Some, None}
+use Rattle.std.specs.Prelude.{◌≡◌, ◌≤◌, ◌⊎◌, ℕ, ◌+◌, Bool, true, List, length, Option, Some, None}
 use Rattle.q_logic.specs.Prelude.{Circuit, Strategy, circuit_of, given}
 use Rattle.q_logic.specs.Reversals.{Reversal, carried, Forth}
 use Rattle.q_aig.specs.Prelude.{Net, tree_at, Serves}
-use Rattle.q_certificate.specs.Prelude.{look_at, AreLiterals, InputsAt}
+use Rattle.q_certificate.specs.Prelude.{look_at, AreLiterals}
 use Rattle.q_herbrand.specs.declared.slots.Slots.{Slots}
 use Rattle.q_herbrand.specs.Under.{under}
-use Rattle.q_herbrand.specs.Slots.{AreSlots, AreOwned, IsResolved}
+use Rattle.q_herbrand.specs.Slots.{AreSlots, AreCurrent, AreOwned, IsResolved}
 use Rattle.q_herbrand.specs.Inputs.{has_input}
 use Rattle.q_herbrand.specs.Covered.{EntryCovered, EntryOwned, AreCovered, weight, weights}
 
@@ -33,11 +33,10 @@ pub record Follows (a : Net) (ins tb : List (Option ℕ)) (z : Slots) (c : Strat
 -- the rows belong to the graph, and each input of the first row has a slot
 pub record IsReady (a : Net) (ins tb : List (Option ℕ)) (z : Slots) : Type 0 where
   pub slots : AreSlots a z
+  pub current : AreCurrent ins z
   pub owned : AreOwned a.inputs ins z
   pub literals : AreLiterals a ins
-  pub at : InputsAt a ins (has_input ins)
   pub circuits : AreLiterals a tb
-  pub within : (v : ℕ) → has_input ins v ≡ true → v < length z.current.items
 
 -- one entry taken, and several
 pub record IsTaken (a b : Net) (ins tb tb2 : List (Option ℕ)) (z z2 : Slots) (r : Reversal) : Type 0 where

@@ -1,8 +1,8 @@
 //! The draft: the gates that the given circuits need, over slots, with all entries taken.
-ghost use Rattle.std.specs.Prelude.{◌≡◌, ◌==◌, if◌then◌else◌, ℕ, max, None, IfOk, OnOk};
+ghost use Rattle.std.specs.Prelude.{◌≡◌, ◌==◌, if◌then◌else◌, ℕ, [], max, None, IfOk, OnOk};
 ghost use Rattle.q_certificate.specs.Prelude.{look_at};
 ghost use Rattle.q_herbrand.specs.Inputs.{AreInputs};
-ghost use Rattle.q_herbrand.specs.Drafted.{either, AreMerged, IsDrafted, IsCopiedInto};
+ghost use Rattle.q_herbrand.specs.Drafted.{either, AreMerged, AreByPlaces, IsByPlaces, IsDrafted, IsCopiedInto};
 
 use crate::entries::take_all;
 use crate::inputs::reopen;
@@ -80,6 +80,33 @@ fn copy_into(
     Ok(row)
 }
 
+// So many inputs, each named by its place.
+fn places(alloc: Global, count: usize) -> Result<Aig, NoMemory>
+    ensures inputs { IfOk result (λ a. AreByPlaces count a.inputs) }
+    ensures gates { IfOk result (λ a. a.gates ≡ []) }
+{
+    let mut aig = Aig::new(alloc);
+    for place in 0..count {
+        let Ok(name) = u32::try_from(place) else {
+            return Err(NoMemory);
+        };
+        aig.input(name)?;
+    }
+    Ok(aig)
+}
+
+// The same gates over inputs that are named by their places. The graph of before is let go.
+fn by_places(alloc: Global, named: Aig) -> Result<Aig, NoMemory>
+    ensures { IfOk result (IsByPlaces named) }
+{
+    let mut aig = places(alloc, named.inputs().len())?;
+    for gate in 0..named.gates() {
+        let (left, right) = named.operands(gate);
+        aig.gate(left, right)?;
+    }
+    Ok(aig)
+}
+
 /// Copies the circuits into a draft, and takes the entries there.
 pub fn make_draft(
     alloc: Global,
@@ -91,9 +118,10 @@ pub fn make_draft(
     requires inputs { AreInputs opened.now.inputs inputs.items }
     ensures { IfOk result (IsDrafted opened.now inputs.items given.now reversals.now) }
 {
-    let mut aig = reopen(alloc, opened)?;
-    let circuits = copy_into(alloc, &mut aig, &inputs, given)?;
-    let mut slots = begin(alloc, &inputs)?;
+    let mut named = reopen(alloc, opened)?;
+    let circuits = copy_into(alloc, &mut named, &inputs, given)?;
+    let mut aig = by_places(alloc, named)?;
+    let mut slots = begin(alloc, opened.inputs())?;
     let mut tables = Tables { inputs, circuits };
     take_all(&mut aig, &mut tables, &mut slots, reversals)?;
     Ok(Draft { aig, tables, slots })

@@ -133,7 +133,7 @@ fn take_fresh(
 {
     // for the proof: the contract of this call says that this is a graph
     aig.inputs();
-    match slot_of(slots, &tables.inputs, var) {
+    match slot_of(slots, var) {
         None => Ok(()),
         Some(before) => {
             let _lit = renew(aig, &mut tables.circuits, slots, var)?;
@@ -160,7 +160,7 @@ fn take_added(
 {
     // for the proof: the contract of this call says that this is a graph
     aig.inputs();
-    match slot_of(slots, &tables.inputs, pivot.var()) {
+    match slot_of(slots, pivot.var()) {
         None => Ok(()),
         Some(before) => {
             let lit = renew(aig, &mut tables.circuits, slots, pivot.var())?;

@@ -1,7 +1,9 @@
-//! Slots, by their numbers. The first slot of a variable has the number of the variable.
-ghost use Rattle.std.specs.Prelude.{◌≡◌, ◌<◌, ◌≤◌, ◌⊎◌, true, false, length, slice_set, IfOk, MatchOption, Some};
-ghost use Rattle.q_certificate.specs.Prelude.{look_at, is_there};
-ghost use Rattle.q_herbrand.specs.Slots.{AreSlots, IsBegun, IsRenewed, slot_at};
+//! Slots, by their numbers. The first ones have the numbers of the places of their variables, so memory is in proportion to the
+//! inputs, however great their variables are.
+ghost use Rattle.std.specs.Prelude.{◌≡◌, ◌<◌, length, slice_set, IfOk, MatchOption, Some, None};
+ghost use Rattle.q_aig.specs.Prelude.{AreDistinct};
+ghost use Rattle.q_certificate.specs.Prelude.{look_at};
+ghost use Rattle.q_herbrand.specs.Slots.{AreSlots, IsBegun, IsRenewed};
 
 use q_aig::Aig;
 use q_certificate::{Table, look, put};
@@ -12,44 +14,38 @@ use std::alloc::Global;
 #[derive(Drop)]
 pub struct Slots {
     /// The slot that stands for a variable now.
-    pub current: Vec<usize>,
+    pub current: Table,
     /// The variable of a slot.
     pub owners: Vec<usize>,
     /// What a slot was filled with.
     pub definitions: Vec<Option<u64>>,
 }
 
-/// A slot for each variable of the row.
-pub fn begin(alloc: Global, inputs: &Table) -> Result<Slots, NoMemory>
-    ensures { IfOk result (IsBegun (length inputs.now.items)) }
+/// A slot for each of these variables.
+pub fn begin(alloc: Global, names: &[u32]) -> Result<Slots, NoMemory>
+    requires { AreDistinct names.now }
+    ensures { IfOk result (IsBegun names.now) }
 {
     let mut slots = Slots {
-        current: Vec::new(alloc),
+        current: Table::new(alloc),
         owners: Vec::new(alloc),
         definitions: Vec::new(alloc),
     };
-    for var in 0..inputs.len() {
-        slots.current.push(var)?;
-        slots.owners.push(var)?;
+    for place in 0..names.len() {
+        put(&mut slots.current, names[place], Some(place as u64))?;
+        slots.owners.push(names[place] as usize)?;
         slots.definitions.push(None)?;
     }
     Ok(slots)
 }
 
-/// The slot that stands for a variable, where the variable is an input.
-pub fn slot_of(slots: &Slots, inputs: &Table, var: u32) -> Option<usize>
-    ensures { MatchOption result
-        ((is_there (look_at inputs.now.items var) ≡ false) ⊎ (length slots.now.current.items ≤ var))
-        (λ s. (var < length slots.now.current.items) × (s ≡ slot_at slots.now.current.items var) ×
-        (is_there (look_at inputs.now.items var) ≡ true)) }
+/// The slot that stands for a variable, if it has one.
+pub fn slot_of(slots: &Slots, var: u32) -> Option<usize>
+    ensures { MatchOption result (look_at slots.now.current.items var ≡ None)
+        (λ s. look_at slots.now.current.items var ≡ Some s) }
 {
-    let _lit = look(inputs, var)?;
-    let at = var as usize;
-    if at < slots.current.len() {
-        Some(slots.current[at])
-    } else {
-        None
-    }
+    let slot = look(&slots.current, var)?;
+    Some(slot as usize)
 }
 
 /// A new slot for a variable. The one before is still to be filled.
@@ -59,17 +55,16 @@ pub fn renew(
     slots: &mut Slots,
     var: u32,
 ) -> Result<u64, NoMemory>
-    requires slots { AreSlots aig.old slots.old }
-    requires there { var < length slots.old.current.items }
+    requires { AreSlots aig.old slots.old }
     ensures { IfOk result (IsRenewed aig.old aig.new circuits.old.items circuits.new.items slots.old
         slots.new var) }
 {
-    let Ok(name) = u32::try_from(slots.definitions.len()) else {
+    let slot = slots.definitions.len();
+    let Ok(name) = u32::try_from(slot) else {
         return Err(NoMemory);
     };
-    let at = var as usize;
-    slots.current[at] = slots.definitions.len();
-    slots.owners.push(at)?;
+    put(&mut slots.current, var, Some(slot as u64))?;
+    slots.owners.push(var as usize)?;
     slots.definitions.push(None)?;
     let lit = aig.input(name)?;
     put(circuits, var, Some(lit))?;
