@@ -6,9 +6,9 @@ Usage: bench/sparse.py
 First a formula of 40 variables (8 universal) and 368 clauses, which no rule changes, under the greatest numbers up to N: a line for each N, with the peaks of
 resident memory of `simplify` and of `check`, and what that is in bytes for each number up to N.
 
-Then a true and a false formula of two clauses and two variables, 1 and N, through each command of the program that reads one, and a formula of 56 clauses of
-which `simplify` expands a universal variable: a line for each run, with the peak of resident memory, the time and what it says. N is 2^19 - 1, 2^19, 2^20, and
-the greatest there is. (There `miter` has no numbers left for variables of its own, and
+Then formulas of two clauses and two variables, 1 and N, through each command of the program that reads one: a true one, a false one in which N is universal, and
+one in which it is existential; and a formula of 56 clauses of which `simplify` expands a universal variable. A line for each run has the peak of resident memory,
+the time and what it says. N is 2^19 - 1, 2^19, 2^20, and the greatest there is. (There `miter` has no numbers left for variables of its own, and
 says `circuits too large`.) MB are 1,000,000 bytes. Wants GNU time.
 """
 import os
@@ -71,6 +71,11 @@ def small(outer, inner, n):
     return f"p cnf {n} 2\n{outer} 1 0\n{inner} {n} 0\n1 -{n} 0\n-1 {n} 0\n"
 
 
+def opposed(n):
+    """Two clauses that no value of n satisfies where 1 is false."""
+    return f"p cnf {n} 2\na 1 0\ne {n} 0\n1 {n} 0\n1 -{n} 0\n"
+
+
 def expanded(n):
     """Fourteen variables below n. One is universal, and its expansion brings n in."""
     draw = random.Random(18)
@@ -90,6 +95,11 @@ def trace(verdict, n):
     sign = "" if verdict == "SAT" else "-"
     other = "-" if verdict == "SAT" else ""
     return f"p qrp {n} 5\n1 1 {sign}{n} 0 0\n2 -1 {other}{n} 0 0\n3 1 0 1 0\n4 -1 0 2 0\n5 0 3 4 0\nr {verdict}\n"
+
+
+def resolved(n):
+    """The resolution proof of the latter: one resolvent, and 1 is reduced."""
+    return f"p qrp {n} 4\n1 1 {n} 0 0\n2 1 -{n} 0 0\n3 1 0 1 2 0\n4 0 3 0\nr UNSAT\n"
 
 
 def write(name, text):
@@ -137,6 +147,9 @@ def main():
             write("in", small("e", "a", n))
             write("trace", trace("UNSAT", n))
             play(n, "false", FALSE)
+            write("in", opposed(n))
+            write("trace", resolved(n))
+            play(n, "opposed", FALSE)
             write("in", expanded(n))
             play(n, "expanded", EXPANDED)
 

@@ -491,6 +491,15 @@ pub new-hinted-ready : (keep : Bool) (F G : PrenexFormula) (o : Option PrenexFor
 new-hinted-ready keep F G o None new c e z q n h = subst (λ (x : PrenexFormula). new ≡ Some (new_hinted keep x)) (is-held F G o e h) (q ∙ ap Some n)
 new-hinted-ready keep F G o (Some d) new c e z q n h = cc
 
+-- a new checker of plain steps, where there was none
+pub started-plain : (keep : Bool) (F : PrenexFormula) (m : Limits) (c : Checked) → AreAlike F c.formula × (c.undo ≡ []) × (c.limits ≡ m) × (c.keeps ≡ keep) → m ≡ standard → IsNewPlain keep F c
+started-plain keep F m c s q = record { alike = s.0; undo = s.1; limits = s.2 ∙ q; keeps = s.3 }
+
+pub new-plain-ready : (keep : Bool) (F G : PrenexFormula) (o : Option PrenexFormula) (old new : Option Checked) (c : Checked) → o ≡ Some G → old ≡ None → new ≡ Some c → IsNewPlain keep G c → IsHeld F o → IsReadyPlain keep F old new
+new-plain-ready keep F G o None new c e z q n h =
+    subst (λ (x : Option Checked). IsSomeAnd x (IsNewPlain keep F)) (sym q) (subst (λ (x : PrenexFormula). IsNewPlain keep x c) (is-held F G o e h) n)
+new-plain-ready keep F G o (Some d) new c e z q n h = cc
+
 pub ended-held : (o : Option PrenexFormula) (r : Result Verified CheckError) (P : Verified → PrenexFormula → Type 0) → ((F : PrenexFormula) → IsHeld F o → IfOk r (λ v. P v F)) → IfOk r (λ v. (F : PrenexFormula) → IsHeld F o → P v F)
 ended-held o (Ok v) P f = f
 ended-held o (Err e) P f = tt
