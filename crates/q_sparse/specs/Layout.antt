@@ -1,0 +1,30 @@
+-- How a sparse row lies in memory. No public clause cites this module.
+use Rattle.std.specs.Prelude.{◌≡◌, ◌⊎◌, ◌≤◌, ◌<◌, ◌+◌, ◌*◌, ℕ, zero, suc, nat_lt, cond, List, [], ◌∷◌, length, slice_index_or}
+use Rattle.q_pages.specs.Layout.{values_from, entry, IsSound}
+use Rattle.q_sparse.specs.Rows.{Row}
+
+-- how many pages were made
+abbrev pub given : List ℕ → ℕ
+given [] = 0
+given (p ∷ pages) = cond (nat_lt 0 p) (suc (given pages)) (given pages)
+
+module _ {T : Type 0} where
+  -- what stands at a number
+  abbrev pub item : T → List T → List ℕ → List T → ℕ → T
+  item none near pages far i = cond (nat_lt i 1048576) (slice_index_or near i none) (entry none pages far i)
+
+  abbrev pub row_of : T → ℕ → List T → List ℕ → List T → Row T
+  row_of none len near pages far = record { items = values_from (item none near pages far) 0 len; none = none }
+
+  -- a row of `len` numbers, over two rows of values that have so much room
+  pub record IsRow (none : T) (len : ℕ) (near : List T) (near_room : ℕ) (pages : List ℕ) (far : List T) (far_room : ℕ) : Type 0 where
+    pub within : length near ≤ len
+    pub few_near : length near ≤ 1048576
+    pub near_room : (len ≤ near_room) ⊎ (1048576 ≤ near_room)
+    pub sound : IsSound none pages far
+    pub whole : (len ≤ 1048576) ⊎ (len ≤ 1024 * length pages)
+    pub long : length far ≤ 1024 * (given pages + 1)
+    pub far_room : 0 < length pages → 1024 * (length pages + 1) ≤ far_room
+    -- nothing is written past the end
+    pub beyond : (i : ℕ) → len ≤ i → 1048576 ≤ i → entry none pages far i ≡ none
+    pub few : len ≤ 4294966272

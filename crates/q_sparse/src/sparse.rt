@@ -1,0 +1,234 @@
+// A row by number, as a `Vec` is, that touches memory only where something was written. A formula of two clauses may name the variable
+// 16,777,215; what is written for each number up to it would take hundreds of megabytes.
+//
+// Room for all numbers is reserved where the row grows, and costs address space alone. So a write takes no memory of its own, and
+// can't fail. Small numbers stand in a plain row, which is filled up to the greatest that was written; so a look there costs one
+// comparison. Great ones stand in pages, each behind the one that was made before it.
+ghost use Rattle.std.specs.Prelude.{◌≡◌, ◌⊎◌, ◌≤◌, ◌<◌, ◌+◌, ◌*◌, ◌/◌, ℕ, [], length, slice_index_or, slice_set, slice_get, Some, OnOk, vec_capacity};
+ghost use Rattle.q_pages.specs.Tables.{place_in, page_of};
+ghost use Rattle.q_pages.specs.Layout.{entry, IsSound};
+ghost use Rattle.q_sparse.specs.Rows.{item_at};
+ghost use Rattle.q_sparse.specs.Layout.{given};
+
+use q_logic::NoMemory;
+use std::alloc::Global;
+use std::marker::Model;
+
+// Where the pages begin.
+const NEAR: usize = 1_048_576;
+
+// So many numbers share a page.
+const PAGE: usize = 1_024;
+
+// So many numbers a row may have.
+const MOST: usize = 4_294_966_272;
+
+/// A row of values by number. All are one value until they are written.
+#[derive(Drop)]
+pub struct Sparse<T> {
+    none: T,
+    len: usize,
+    near: Vec<T>,
+    // for each 1,024 numbers the place of their page, where page 0 has nothing that was written
+    pages: Vec<u32>,
+    far: Vec<T>,
+}
+
+impl<T> Model for Sparse<T> {
+    ghost use Rattle.std.specs.Prelude.{vec_capacity};
+    ghost use Rattle.q_sparse.specs.Rows.{Row, row_code};
+    ghost use Rattle.q_sparse.specs.Layout.{row_of, IsRow};
+
+    ghost Value = { Row T };
+
+    ghost coded = { row_code T.code };
+
+    ghost view = { λ v. row_of v.none v.len v.near.items v.pages.items v.far.items };
+
+    ghost invariant = { λ v. IsRow v.none v.len v.near.items (vec_capacity v.near) v.pages.items
+        v.far.items (vec_capacity v.far) };
+}
+
+impl<T: Copy> Sparse<T> {
+    /// A row of no number, with what stands where nothing is written.
+    pub fn new(alloc: Global, none: T) -> Sparse<T>
+        ensures none { result.none ≡ none }
+        ensures items { result.items ≡ [] }
+    {
+        Sparse {
+            none,
+            len: 0,
+            near: Vec::new(alloc),
+            pages: Vec::new(alloc),
+            far: Vec::new(alloc),
+        }
+    }
+
+    pub fn len(&self) -> usize
+        ensures value { result ≡ length self.now.items }
+        ensures few { result ≤ 4294966272 }
+    {
+        self.len
+    }
+
+    /// The value at a number, also past the end.
+    #[inline(always)]
+    pub fn get(&self, at: usize) -> T
+        ensures { result ≡ item_at self.now at }
+    {
+        if at < self.near.len() {
+            self.near[at]
+        } else if at < NEAR || at >= self.len {
+            self.none
+        } else {
+            far_item(&self.pages, &self.far, at)
+        }
+    }
+
+    /// Puts a value at a number of the row.
+    #[inline(always)]
+    pub fn set(&mut self, at: usize, value: T)
+        requires { at < length self.old.items }
+        ensures items { self.new.items ≡ slice_set self.old.items at value }
+        ensures none { self.new.none ≡ self.old.none }
+    {
+        if at < self.near.len() {
+            self.near[at] = value;
+        } else {
+            self.set_first(at, value);
+        }
+    }
+
+    // The same where the number may not be in the plain row yet, or has none there.
+    fn set_first(&mut self, at: usize, value: T)
+        requires { at < length self.old.items }
+        ensures items { self.new.items ≡ slice_set self.old.items at value }
+        ensures none { self.new.none ≡ self.old.none }
+    {
+        if at < NEAR {
+            reach(&mut self.near, self.none, at, self.len.min(NEAR));
+            self.near[at] = value;
+        } else {
+            make_page(&mut self.pages, &mut self.far, self.none, at);
+            let place = self.pages[at / PAGE] as usize * PAGE + at % PAGE;
+            self.far[place] = value;
+        }
+    }
+
+    /// Takes in the numbers below an end, of which nothing is written. It reserves all that writes may need.
+    pub fn grow(&mut self, len: usize) -> Result<(), NoMemory>
+        ensures len { OnOk result (len ≤ length self.new.items) }
+        ensures kept { length self.old.items ≤ length self.new.items }
+        ensures exact { (length self.new.items ≡ length self.old.items)
+            ⊎ (length self.new.items ≡ len) }
+        ensures items { (i : ℕ) → item_at self.new i ≡ item_at self.old i }
+        ensures none { self.new.none ≡ self.old.none }
+    {
+        if len <= self.len {
+            return Ok(());
+        }
+        if len > MOST {
+            return Err(NoMemory);
+        }
+        reserve(&mut self.near, len.min(NEAR))?;
+        if len > NEAR {
+            reserve_pages(&mut self.pages, &mut self.far, self.none, len / PAGE + 1)?;
+        }
+        self.len = len;
+        Ok(())
+    }
+}
+
+// The value at a number whose page there is.
+fn far_item<T: Copy>(pages: &Vec<u32>, far: &Vec<T>, at: usize) -> T
+    requires page { at / 1024 < length pages.now.items }
+    requires within { page_of pages.now.items at * 1024 + 1024 ≤ length far.now.items }
+    ensures { (none : T) → result ≡ entry none pages.now.items far.now.items at }
+{
+    far[pages[at / PAGE] as usize * PAGE + at % PAGE]
+}
+
+// Fills the plain row up to a number at least. Its length doubles, so that numbers that come in order take little time.
+fn reach<T: Copy>(near: &mut Vec<T>, none: T, at: usize, most: usize)
+    requires at { at < most }
+    requires room { most ≤ vec_capacity near.old }
+    requires within { length near.old.items ≤ most }
+    ensures at { at < length near.new.items }
+    ensures kept { length near.old.items ≤ length near.new.items }
+    ensures within { length near.new.items ≤ most }
+    ensures room { vec_capacity near.old ≤ vec_capacity near.new }
+    ensures same { (i : ℕ) → slice_index_or near.new.items i none
+        ≡ slice_index_or near.old.items i none }
+{
+    if at < near.len() {
+        return;
+    }
+    let end = (at + 1).max(near.len().saturating_mul(2)).min(most);
+    let _ = near.resize(end, none);
+}
+
+// Gives the page of a number memory, which was reserved.
+fn make_page<T: Copy>(pages: &mut Vec<u32>, far: &mut Vec<T>, none: T, at: usize)
+    requires page { at / 1024 < length pages.old.items }
+    requires sound { IsSound none pages.old.items far.old.items }
+    requires long { length far.old.items ≤ 1024 * (given pages.old.items + 1) }
+    requires room { 1024 * (length pages.old.items + 1) ≤ vec_capacity far.old }
+    ensures made { 0 < page_of pages.new.items at }
+    ensures sound { IsSound none pages.new.items far.new.items }
+    ensures long { length far.new.items ≤ 1024 * (given pages.new.items + 1) }
+    ensures room { vec_capacity far.old ≤ vec_capacity far.new }
+    ensures pages { length pages.new.items ≡ length pages.old.items }
+    ensures same { (i : ℕ) → entry none pages.new.items far.new.items i
+        ≡ entry none pages.old.items far.old.items i }
+{
+    if pages[at / PAGE] != 0 {
+        return;
+    }
+    let page = far.len() / PAGE;
+    let _ = far.resize((page + 1) * PAGE, none);
+    pages[at / PAGE] = page as u32;
+}
+
+// Room for so many values, without one more.
+fn reserve<T>(values: &mut Vec<T>, most: usize) -> Result<(), NoMemory>
+    ensures room { OnOk result (most ≤ vec_capacity values.new) }
+    ensures kept { vec_capacity values.old ≤ vec_capacity values.new }
+    ensures same { values.new.items ≡ values.old.items }
+{
+    if values.capacity() < most {
+        values.reserve(most - values.len())?;
+    }
+    Ok(())
+}
+
+// So many numbers' pages, none of them made, and room for all.
+fn reserve_pages<T: Copy>(
+    pages: &mut Vec<u32>,
+    far: &mut Vec<T>,
+    none: T,
+    count: usize,
+) -> Result<(), NoMemory>
+    requires few { count ≤ 4194304 }
+    requires sound { IsSound none pages.old.items far.old.items }
+    requires long { length far.old.items ≤ 1024 * (given pages.old.items + 1) }
+    requires room { 0 < length pages.old.items → 1024 * (length pages.old.items + 1)
+        ≤ vec_capacity far.old }
+    ensures count { OnOk result (count ≤ length pages.new.items) }
+    ensures sound { IsSound none pages.new.items far.new.items }
+    ensures long { length far.new.items ≤ 1024 * (given pages.new.items + 1) }
+    ensures room { 0 < length pages.new.items → 1024 * (length pages.new.items + 1)
+        ≤ vec_capacity far.new }
+    ensures pages { length pages.old.items ≤ length pages.new.items }
+    ensures same { (i : ℕ) → entry none pages.new.items far.new.items i
+        ≡ entry none pages.old.items far.old.items i }
+{
+    if count <= pages.len() {
+        return Ok(());
+    }
+    reserve(far, (count + 1) * PAGE)?;
+    if far.len() < PAGE {
+        far.resize(PAGE, none)?;
+    }
+    pages.resize(count, 0)?;
+    Ok(())
+}
