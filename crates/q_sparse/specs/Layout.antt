@@ -20,11 +20,11 @@ module _ {T : Type 0} where
   pub record IsRow (none : T) (len : ℕ) (near : List T) (near_room : ℕ) (pages : List ℕ) (far : List T) (far_room : ℕ) : Type 0 where
     pub within : length near ≤ len
     pub few_near : length near ≤ 1048576
-    pub near_room : (len ≤ near_room) ⊎ (1048576 ≤ near_room)
+    pub roomy_near : (len ≤ near_room) ⊎ (1048576 ≤ near_room)
     pub sound : IsSound none pages far
     pub whole : (len ≤ 1048576) ⊎ (len ≤ 1024 * length pages)
     pub long : length far ≤ 1024 * (given pages + 1)
-    pub far_room : 0 < length pages → 1024 * (length pages + 1) ≤ far_room
+    pub roomy_far : 0 < length pages → 1024 * (length pages + 1) ≤ far_room
     -- nothing is written past the end
     pub beyond : (i : ℕ) → len ≤ i → 1048576 ≤ i → entry none pages far i ≡ none
     pub few : len ≤ 4294966272

@@ -4,8 +4,8 @@
 // Room for all numbers is reserved where the row grows, and costs address space alone. So a write takes no memory of its own, and
 // can't fail. Small numbers stand in a plain row, which is filled up to the greatest that was written; so a look there costs one
 // comparison. Great ones stand in pages, each behind the one that was made before it.
-ghost use Rattle.std.specs.Prelude.{◌≡◌, ◌⊎◌, ◌≤◌, ◌<◌, ◌+◌, ◌*◌, ◌/◌, ℕ, [], length, slice_index_or, slice_set, slice_get, Some, OnOk, vec_capacity};
-ghost use Rattle.q_pages.specs.Tables.{place_in, page_of};
+ghost use Rattle.std.specs.Prelude.{◌≡◌, ◌⊎◌, ◌≤◌, ◌<◌, ◌+◌, ◌*◌, ◌/◌, ℕ, [], length, slice_index_or, slice_set, OnOk, OnErr, vec_capacity};
+ghost use Rattle.q_pages.specs.Tables.{page_of};
 ghost use Rattle.q_pages.specs.Layout.{entry, IsSound};
 ghost use Rattle.q_sparse.specs.Rows.{item_at};
 ghost use Rattle.q_sparse.specs.Layout.{given};
@@ -78,10 +78,12 @@ impl<T: Copy> Sparse<T> {
     {
         if at < self.near.len() {
             self.near[at]
-        } else if at < NEAR || at >= self.len {
+        } else if at < NEAR {
             self.none
-        } else {
+        } else if at < self.len {
             far_item(&self.pages, &self.far, at)
+        } else {
+            self.none
         }
     }
 
@@ -131,12 +133,20 @@ impl<T: Copy> Sparse<T> {
             return Err(NoMemory);
         }
         reserve(&mut self.near, len.min(NEAR))?;
-        if len > NEAR {
-            reserve_pages(&mut self.pages, &mut self.far, self.none, len / PAGE + 1)?;
-        }
+        let count = pages_for(len);
+        reserve_pages(&mut self.pages, &mut self.far, self.none, count)?;
         self.len = len;
         Ok(())
     }
+}
+
+// How many pages a row of a length has, the plain row's numbers counted.
+fn pages_for(len: usize) -> usize
+    requires { len ≤ 4294966272 }
+    ensures whole { (len ≤ 1048576) ⊎ (len ≤ 1024 * result) }
+    ensures few { result ≤ 4194304 }
+{
+    if len > NEAR { len / PAGE + 1 } else { 0 }
 }
 
 // The value at a number whose page there is.
@@ -164,7 +174,31 @@ fn reach<T: Copy>(near: &mut Vec<T>, none: T, at: usize, most: usize)
         return;
     }
     let end = (at + 1).max(near.len().saturating_mul(2)).min(most);
-    let _ = near.resize(end, none);
+    fill(near, none, end);
+}
+
+// Appends a value up to a length for which there is room.
+fn fill<T: Copy>(values: &mut Vec<T>, none: T, end: usize)
+    requires long { length values.old.items ≤ end }
+    requires room { end ≤ vec_capacity values.old }
+    ensures end { length values.new.items ≡ end }
+    ensures kept { vec_capacity values.old ≤ vec_capacity values.new }
+    ensures same { (i : ℕ) → slice_index_or values.new.items i none
+        ≡ slice_index_or values.old.items i none }
+{
+    let _ = values.resize(end, none);
+}
+
+// Takes in pages up to a number, of which none is made.
+fn extend(pages: &mut Vec<u32>, end: usize) -> Result<(), NoMemory>
+    requires { length pages.old.items ≤ end }
+    ensures end { OnOk result (length pages.new.items ≡ end) }
+    ensures err { OnErr result (pages.new.items ≡ pages.old.items) }
+    ensures same { (k : ℕ) → slice_index_or pages.new.items k 0
+        ≡ slice_index_or pages.old.items k 0 }
+{
+    pages.resize(end, 0)?;
+    Ok(())
 }
 
 // Gives the page of a number memory, which was reserved.
@@ -185,7 +219,7 @@ fn make_page<T: Copy>(pages: &mut Vec<u32>, far: &mut Vec<T>, none: T, at: usize
         return;
     }
     let page = far.len() / PAGE;
-    let _ = far.resize((page + 1) * PAGE, none);
+    fill(far, none, (page + 1) * PAGE);
     pages[at / PAGE] = page as u32;
 }
 
@@ -226,9 +260,6 @@ fn reserve_pages<T: Copy>(
         return Ok(());
     }
     reserve(far, (count + 1) * PAGE)?;
-    if far.len() < PAGE {
-        far.resize(PAGE, none)?;
-    }
-    pages.resize(count, 0)?;
-    Ok(())
+    fill(far, none, far.len().max(PAGE));
+    extend(pages, count)
 }
