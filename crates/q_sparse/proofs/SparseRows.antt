@@ -22,53 +22,53 @@ module _ {T : Type 0} (f : ℕ → T) where
       let e : suc k + i ≡ k + suc i = omega arith in
       value-at (suc k) n i d (le_of_suc-le-suc h) ∙ ap f e
 
-module _ {T : Type 0} (none : T) (len : ℕ) (near : List T) (pages : List ℕ) (far : List T) where
-  pub length-items : length (row_of none len near pages far).items ≡ len
-  length-items = length-values (item none near pages far) 0 len
+module _ {T : Type 0} (edge : ℕ) (none : T) (len : ℕ) (near : List T) (pages : List ℕ) (far : List T) where
+  pub length-items : length (row_of edge none len near pages far).items ≡ len
+  length-items = length-values (item edge none near pages far) 0 len
 
-  pub within-item : (i : ℕ) → i < len → item_at (row_of none len near pages far) i ≡ item none near pages far i
+  pub within-item : (i : ℕ) → i < len → item_at (row_of edge none len near pages far) i ≡ item edge none near pages far i
   within-item i h =
       let e : 0 + i ≡ i = omega arith in
-      value-at (item none near pages far) 0 len i none h ∙ ap (λ (k : ℕ). item none near pages far k) e
+      value-at (item edge none near pages far) 0 len i none h ∙ ap (λ (k : ℕ). item edge none near pages far k) e
 
-  pub past-item : (i : ℕ) → len ≤ i → item_at (row_of none len near pages far) i ≡ none
-  past-item i h = get_or_past (row_of none len near pages far).items i none (rw length-items h)
+  pub past-item : (i : ℕ) → len ≤ i → item_at (row_of edge none len near pages far) i ≡ none
+  past-item i h = get_or_past (row_of edge none len near pages far).items i none (rw length-items h)
 
-  pub near-item : (i : ℕ) → i < 1048576 → item none near pages far i ≡ get_or near i none
-  near-item i h = (let e : nat_lt i 1048576 ≡ true = grind (arith, nat_tests) in rw e refl)
+  pub near-item : (i : ℕ) → i < edge → item edge none near pages far i ≡ get_or near i none
+  near-item i h = (let e : nat_lt i edge ≡ true = grind (arith, nat_tests) in rw e refl)
 
-  pub far-item : (i : ℕ) → 1048576 ≤ i → item none near pages far i ≡ entry none pages far i
-  far-item i h = (let e : nat_lt i 1048576 ≡ false = grind (arith, nat_tests) in rw e refl)
+  pub far-item : (i : ℕ) → edge ≤ i → item edge none near pages far i ≡ entry none pages far i
+  far-item i h = (let e : nat_lt i edge ≡ false = grind (arith, nat_tests) in rw e refl)
 
 -- one item has changed, in whatever parts
-pub items-changed : {T : Type 0} (none : T) (len : ℕ) (near more : List T) (pages others : List ℕ) (far rest : List T) (i : ℕ) (x : T) → i < len
-    → item none more others rest i ≡ x
-    → ((j : ℕ) → j < len → j ≢ i → item none more others rest j ≡ item none near pages far j)
-    → (row_of none len more others rest).items ≡ set (row_of none len near pages far).items i x
-items-changed none len near more pages others far rest i x ih here there =
-    let n = length-items none len near pages far in
-    let m = length-items none len more others rest in
-    let ls = length-set (row_of none len near pages far).items i x in
-    ext_get_or none (row_of none len more others rest).items (set (row_of none len near pages far).items i x) (m ∙ sym n ∙ sym ls) (λ j jh.
+pub items-changed : {T : Type 0} (edge : ℕ) (none : T) (len : ℕ) (near more : List T) (pages others : List ℕ) (far rest : List T) (i : ℕ) (x : T) → i < len
+    → item edge none more others rest i ≡ x
+    → ((j : ℕ) → j < len → j ≢ i → item edge none more others rest j ≡ item edge none near pages far j)
+    → (row_of edge none len more others rest).items ≡ set (row_of edge none len near pages far).items i x
+items-changed edge none len near more pages others far rest i x ih here there =
+    let n = length-items edge none len near pages far in
+    let m = length-items edge none len more others rest in
+    let ls = length-set (row_of edge none len near pages far).items i x in
+    ext_get_or none (row_of edge none len more others rest).items (set (row_of edge none len near pages far).items i x) (m ∙ sym n ∙ sym ls) (λ j jh.
     let jl : j < len = omega (arith, jh, m) in
-    within-item none len more others rest j jl ∙ elim (cases_eq j i) [
+    within-item edge none len more others rest j jl ∙ elim (cases_eq j i) [
       | inl e ↦
-          ap (λ (k : ℕ). item none more others rest k) e ∙ here ∙
-          sym (ap (λ (k : ℕ). get_or (set (row_of none len near pages far).items i x) k none) e ∙ get_or-set_same (row_of none len near pages far).items i x none (omega (arith, n, ih)))
+          ap (λ (k : ℕ). item edge none more others rest k) e ∙ here ∙
+          sym (ap (λ (k : ℕ). get_or (set (row_of edge none len near pages far).items i x) k none) e ∙ get_or-set_same (row_of edge none len near pages far).items i x none (omega (arith, n, ih)))
       | inr d ↦
-          there j jl d ∙ sym (get_or-set_other (row_of none len near pages far).items i j x none d ∙ within-item none len near pages far j jl)
+          there j jl d ∙ sym (get_or-set_other (row_of edge none len near pages far).items i j x none d ∙ within-item edge none len near pages far j jl)
     ])
 
 -- a number of the plain row is written
-pub near-set : {T : Type 0} (none : T) (len : ℕ) (near more : List T) (pages : List ℕ) (far : List T) (i : ℕ) (x : T)
-    → ((j : ℕ) → get_or more j none ≡ get_or near j none) → i < length more → i < 1048576 → i < len
-    → (row_of none len (set more i x) pages far).items ≡ set (row_of none len near pages far).items i x
-near-set none len near more pages far i x same ih il len-h =
-    items-changed none len near (set more i x) pages pages far far i x len-h
-    (near-item none len (set more i x) pages far i il ∙ get_or-set_same more i x none ih)
-    (λ j jh d. elim (cases_lt j 1048576) [
-      | inl l ↦ near-item none len (set more i x) pages far j l ∙ get_or-set_other more i j x none d ∙ same j ∙ sym (near-item none len near pages far j l)
-      | inr g ↦ far-item none len (set more i x) pages far j g ∙ sym (far-item none len near pages far j g)
+pub near-set : {T : Type 0} (edge : ℕ) (none : T) (len : ℕ) (near more : List T) (pages : List ℕ) (far : List T) (i : ℕ) (x : T)
+    → ((j : ℕ) → get_or more j none ≡ get_or near j none) → i < length more → i < edge → i < len
+    → (row_of edge none len (set more i x) pages far).items ≡ set (row_of edge none len near pages far).items i x
+near-set edge none len near more pages far i x same ih il len-h =
+    items-changed edge none len near (set more i x) pages pages far far i x len-h
+    (near-item edge none len (set more i x) pages far i il ∙ get_or-set_same more i x none ih)
+    (λ j jh d. elim (cases_lt j edge) [
+      | inl l ↦ near-item edge none len (set more i x) pages far j l ∙ get_or-set_other more i j x none d ∙ same j ∙ sym (near-item edge none len near pages far j l)
+      | inr g ↦ far-item edge none len (set more i x) pages far j g ∙ sym (far-item edge none len near pages far j g)
     ])
 
 -- what stands in pages after one of their values is written
@@ -88,44 +88,44 @@ module _ {T : Type 0} (none : T) (pages : List ℕ) (far : List T) (s : IsSound 
       ]
 
 -- a number of a page is written
-pub far-set : {T : Type 0} (none : T) (len : ℕ) (near : List T) (pages others : List ℕ) (far rest : List T) (s : IsSound none others rest) (i : ℕ) (x : T)
-    → (ih : i < 1024 * length others) → (made : 0 < page_of others i) → ((j : ℕ) → entry none others rest j ≡ entry none pages far j) → i < len → 1048576 ≤ i
-    → (row_of none len near others (set rest (page_of others i * 1024 + i % 1024) x)).items ≡ set (row_of none len near pages far).items i x
-far-set none len near pages others far rest s i x ih made same il beyond =
+pub far-set : {T : Type 0} (edge : ℕ) (none : T) (len : ℕ) (near : List T) (pages others : List ℕ) (far rest : List T) (s : IsSound none others rest) (i : ℕ) (x : T)
+    → (ih : i < 1024 * length others) → (made : 0 < page_of others i) → ((j : ℕ) → entry none others rest j ≡ entry none pages far j) → i < len → edge ≤ i
+    → (row_of edge none len near others (set rest (page_of others i * 1024 + i % 1024) x)).items ≡ set (row_of edge none len near pages far).items i x
+far-set edge none len near pages others far rest s i x ih made same il beyond =
     let written = set rest (page_of others i * 1024 + i % 1024) x in
-    items-changed none len near near pages others far written i x il
-    (far-item none len near others written i beyond ∙ get_or-set_same rest (page_of others i * 1024 + i % 1024) x none (place-in none others rest s i x ih made))
-    (λ j jh d. elim (cases_lt j 1048576) [
-      | inl l ↦ near-item none len near others written j l ∙ sym (near-item none len near pages far j l)
-      | inr g ↦ far-item none len near others written j g ∙ entry-set none others rest s i x ih made j d ∙ same j ∙ sym (far-item none len near pages far j g)
+    items-changed edge none len near near pages others far written i x il
+    (far-item edge none len near others written i beyond ∙ get_or-set_same rest (page_of others i * 1024 + i % 1024) x none (place-in none others rest s i x ih made))
+    (λ j jh d. elim (cases_lt j edge) [
+      | inl l ↦ near-item edge none len near others written j l ∙ sym (near-item edge none len near pages far j l)
+      | inr g ↦ far-item edge none len near others written j g ∙ entry-set none others rest s i x ih made j d ∙ same j ∙ sym (far-item edge none len near pages far j g)
     ])
 
 -- a number that is not in the plain row
-pub near-none : {T : Type 0} (none : T) (len : ℕ) (near : List T) (pages : List ℕ) (far : List T) (i : ℕ) → i < 1048576 → length near ≤ i → item_at (row_of none len near pages far) i ≡ none
-near-none none len near pages far i l h = elim (cases_lt i len) [
-  | inl w ↦ within-item none len near pages far i w ∙ near-item none len near pages far i l ∙ get_or_past near i none h
-  | inr g ↦ past-item none len near pages far i g
+pub near-none : {T : Type 0} (edge : ℕ) (none : T) (len : ℕ) (near : List T) (pages : List ℕ) (far : List T) (i : ℕ) → i < edge → length near ≤ i → item_at (row_of edge none len near pages far) i ≡ none
+near-none edge none len near pages far i l h = elim (cases_lt i len) [
+  | inl w ↦ within-item edge none len near pages far i w ∙ near-item edge none len near pages far i l ∙ get_or_past near i none h
+  | inr g ↦ past-item edge none len near pages far i g
 ]
 
 -- numbers come, of which nothing is written
-pub row-grown : {T : Type 0} (none : T) (len more : ℕ) (near : List T) (pages others : List ℕ) (far rest : List T) → len ≤ more → length near ≤ len
-    → ((i : ℕ) → len ≤ i → 1048576 ≤ i → entry none pages far i ≡ none) → ((j : ℕ) → entry none others rest j ≡ entry none pages far j)
-    → (i : ℕ) → item_at (row_of none more near others rest) i ≡ item_at (row_of none len near pages far) i
-row-grown none len more near pages others far rest le within beyond same i = elim (cases_lt i len) [
+pub row-grown : {T : Type 0} (edge : ℕ) (none : T) (len more : ℕ) (near : List T) (pages others : List ℕ) (far rest : List T) → len ≤ more → length near ≤ len
+    → ((i : ℕ) → len ≤ i → edge ≤ i → entry none pages far i ≡ none) → ((j : ℕ) → entry none others rest j ≡ entry none pages far j)
+    → (i : ℕ) → item_at (row_of edge none more near others rest) i ≡ item_at (row_of edge none len near pages far) i
+row-grown edge none len more near pages others far rest le within beyond same i = elim (cases_lt i len) [
   | inl l ↦
-      within-item none more near others rest i (omega (arith, l, le)) ∙ elim (cases_lt i 1048576) [
-        | inl a ↦ near-item none more near others rest i a ∙ sym (near-item none len near pages far i a)
-        | inr b ↦ far-item none more near others rest i b ∙ same i ∙ sym (far-item none len near pages far i b)
-      ] ∙ sym (within-item none len near pages far i l)
+      within-item edge none more near others rest i (omega (arith, l, le)) ∙ elim (cases_lt i edge) [
+        | inl a ↦ near-item edge none more near others rest i a ∙ sym (near-item edge none len near pages far i a)
+        | inr b ↦ far-item edge none more near others rest i b ∙ same i ∙ sym (far-item edge none len near pages far i b)
+      ] ∙ sym (within-item edge none len near pages far i l)
   | inr g ↦
-      let new : item_at (row_of none more near others rest) i ≡ none = elim (cases_lt i more) [
-        | inl l ↦ within-item none more near others rest i l ∙ elim (cases_lt i 1048576) [
-          | inl a ↦ near-item none more near others rest i a ∙ get_or_past near i none (omega (arith, within, g))
-          | inr b ↦ far-item none more near others rest i b ∙ same i ∙ beyond i g b
+      let new : item_at (row_of edge none more near others rest) i ≡ none = elim (cases_lt i more) [
+        | inl l ↦ within-item edge none more near others rest i l ∙ elim (cases_lt i edge) [
+          | inl a ↦ near-item edge none more near others rest i a ∙ get_or_past near i none (omega (arith, within, g))
+          | inr b ↦ far-item edge none more near others rest i b ∙ same i ∙ beyond i g b
         ]
-        | inr p ↦ past-item none more near others rest i p
+        | inr p ↦ past-item edge none more near others rest i p
       ] in
-      new ∙ sym (past-item none len near pages far i g)
+      new ∙ sym (past-item edge none len near pages far i g)
 ]
 
 -- how many pages were made

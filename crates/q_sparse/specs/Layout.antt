@@ -9,22 +9,22 @@ given [] = 0
 given (p ∷ pages) = cond (nat_lt 0 p) (suc (given pages)) (given pages)
 
 module _ {T : Type 0} where
-  -- what stands at a number
-  abbrev pub item : T → List T → List ℕ → List T → ℕ → T
-  item none near pages far i = cond (nat_lt i 1048576) (slice_index_or near i none) (entry none pages far i)
+  -- what stands at a number: below the edge in the plain row, else in pages
+  abbrev pub item : ℕ → T → List T → List ℕ → List T → ℕ → T
+  item edge none near pages far i = cond (nat_lt i edge) (slice_index_or near i none) (entry none pages far i)
 
-  abbrev pub row_of : T → ℕ → List T → List ℕ → List T → Row T
-  row_of none len near pages far = record { items = values_from (item none near pages far) 0 len; none = none }
+  abbrev pub row_of : ℕ → T → ℕ → List T → List ℕ → List T → Row T
+  row_of edge none len near pages far = record { items = values_from (item edge none near pages far) 0 len; none = none }
 
   -- a row of `len` numbers, over two rows of values that have so much room
-  pub record IsRow (none : T) (len : ℕ) (near : List T) (near_room : ℕ) (pages : List ℕ) (far : List T) (far_room : ℕ) : Type 0 where
+  pub record IsRow (edge : ℕ) (none : T) (len : ℕ) (near : List T) (near_room : ℕ) (pages : List ℕ) (far : List T) (far_room : ℕ) : Type 0 where
     pub within : length near ≤ len
-    pub few_near : length near ≤ 1048576
-    pub roomy_near : (len ≤ near_room) ⊎ (1048576 ≤ near_room)
+    pub few_near : length near ≤ edge
+    pub roomy_near : (len ≤ near_room) ⊎ (edge ≤ near_room)
     pub sound : IsSound none pages far
-    pub whole : (len ≤ 1048576) ⊎ (len ≤ 1024 * length pages)
+    pub whole : (len ≤ edge) ⊎ (len ≤ 1024 * length pages)
     pub long : length far ≤ 1024 * (given pages + 1)
     pub roomy_far : 0 < length pages → 1024 * (length pages + 1) ≤ far_room
     -- nothing is written past the end
-    pub beyond : (i : ℕ) → len ≤ i → 1048576 ≤ i → entry none pages far i ≡ none
+    pub beyond : (i : ℕ) → len ≤ i → edge ≤ i → entry none pages far i ≡ none
     pub few : len ≤ 4294966272

@@ -14,7 +14,7 @@ use q_logic::NoMemory;
 use std::alloc::Global;
 use std::marker::Model;
 
-// Where the pages begin.
+// Where pages begin, where most numbers may be without a value.
 const NEAR: usize = 1_048_576;
 
 // So many numbers share a page.
@@ -28,6 +28,8 @@ const MOST: usize = 4_294_966_272;
 pub struct Sparse<T> {
     none: T,
     len: usize,
+    // where the pages begin
+    edge: usize,
     near: Vec<T>,
     // for each 1,024 numbers the place of their page, where page 0 has nothing that was written
     pages: Vec<u32>,
@@ -43,9 +45,9 @@ impl<T> Model for Sparse<T> {
 
     ghost coded = { row_code T.code };
 
-    ghost view = { λ v. row_of v.none v.len v.near.items v.pages.items v.far.items };
+    ghost view = { λ v. row_of v.edge v.none v.len v.near.items v.pages.items v.far.items };
 
-    ghost invariant = { λ v. IsRow v.none v.len v.near.items (vec_capacity v.near) v.pages.items
+    ghost invariant = { λ v. IsRow v.edge v.none v.len v.near.items (vec_capacity v.near) v.pages.items
         v.far.items (vec_capacity v.far) };
 }
 
@@ -55,9 +57,25 @@ impl<T: Copy> Sparse<T> {
         ensures none { result.none ≡ none }
         ensures items { result.items ≡ [] }
     {
+        Sparse::with_edge(alloc, none, NEAR)
+    }
+
+    /// The same for a row in which most numbers are written, as their values come: all stand in the plain row.
+    pub fn plain(alloc: Global, none: T) -> Sparse<T>
+        ensures none { result.none ≡ none }
+        ensures items { result.items ≡ [] }
+    {
+        Sparse::with_edge(alloc, none, MOST)
+    }
+
+    fn with_edge(alloc: Global, none: T, edge: usize) -> Sparse<T>
+        ensures none { result.none ≡ none }
+        ensures items { result.items ≡ [] }
+    {
         Sparse {
             none,
             len: 0,
+            edge,
             near: Vec::new(alloc),
             pages: Vec::new(alloc),
             far: Vec::new(alloc),
@@ -78,7 +96,7 @@ impl<T: Copy> Sparse<T> {
     {
         if at < self.near.len() {
             self.near[at]
-        } else if at < NEAR {
+        } else if at < self.edge {
             self.none
         } else if at < self.len {
             far_item(&self.pages, &self.far, at)
@@ -107,8 +125,8 @@ impl<T: Copy> Sparse<T> {
         ensures items { self.new.items ≡ slice_set self.old.items at value }
         ensures none { self.new.none ≡ self.old.none }
     {
-        if at < NEAR {
-            reach(&mut self.near, self.none, at, self.len.min(NEAR));
+        if at < self.edge {
+            reach(&mut self.near, self.none, at, self.len.min(self.edge));
             self.near[at] = value;
         } else {
             make_page(&mut self.pages, &mut self.far, self.none, at);
@@ -132,8 +150,8 @@ impl<T: Copy> Sparse<T> {
         if len > MOST {
             return Err(NoMemory);
         }
-        reserve(&mut self.near, len.min(NEAR))?;
-        let count = pages_for(len);
+        reserve(&mut self.near, len.min(self.edge))?;
+        let count = pages_for(self.edge, len);
         reserve_pages(&mut self.pages, &mut self.far, self.none, count)?;
         self.len = len;
         Ok(())
@@ -141,12 +159,12 @@ impl<T: Copy> Sparse<T> {
 }
 
 // How many pages a row of a length has, the plain row's numbers counted.
-fn pages_for(len: usize) -> usize
+fn pages_for(edge: usize, len: usize) -> usize
     requires { len ≤ 4294966272 }
-    ensures whole { (len ≤ 1048576) ⊎ (len ≤ 1024 * result) }
+    ensures whole { (len ≤ edge) ⊎ (len ≤ 1024 * result) }
     ensures few { result ≤ 4194304 }
 {
-    if len > NEAR { len / PAGE + 1 } else { 0 }
+    if len > edge { len / PAGE + 1 } else { 0 }
 }
 
 // The value at a number whose page there is.

@@ -8,42 +8,42 @@ use Rattle.q_sparse.proofs.sparse.Sparse.set_first.Goals as goal
 pub reach-requires-clause-at : goal.reach-requires-clause-at
 reach-requires-clause-at g c =
     let v = c.self.inside in
-    let n = length-items v.none v.len v.near.items v.pages.items v.far.items in
+    let n = length-items v.edge v.none v.len v.near.items v.pages.items v.far.items in
     let r = rw (← c.self.view_is) at c.requires in
-    omega (arith, n, r, c.min.ensures, c.if-at-lt-NEAR.true)
+    omega (arith, n, r, c.min.ensures, c.if-at-self.true)
 
 pub make_page-requires-clause-page : goal.make_page-requires-clause-page
 make_page-requires-clause-page g c =
     let v = c.self.inside in
-    let n = length-items v.none v.len v.near.items v.pages.items v.far.items in
+    let n = length-items v.edge v.none v.len v.near.items v.pages.items v.far.items in
     let r = rw (← c.self.view_is) at c.requires in
     elim c.self.invariant.whole [
-      | inl a ↦ absurd (omega (arith, a, n, r, c.if-at-lt-NEAR.false))
+      | inl a ↦ absurd (omega (arith, a, n, r, c.if-at-self.false))
       | inr b ↦ omega (arith, b, n, r)
     ]
 
 pub make_page-requires-clause-room : goal.make_page-requires-clause-room
 make_page-requires-clause-room g c =
     let v = c.self.inside in
-    let n = length-items v.none v.len v.near.items v.pages.items v.far.items in
+    let n = length-items v.edge v.none v.len v.near.items v.pages.items v.far.items in
     let r = rw (← c.self.view_is) at c.requires in
     elim c.self.invariant.whole [
-      | inl a ↦ absurd (omega (arith, a, n, r, c.if-at-lt-NEAR.false))
+      | inl a ↦ absurd (omega (arith, a, n, r, c.if-at-self.false))
       | inr b ↦ c.self.invariant.roomy_far (omega (arith, b, n, r))
     ]
 
-pub invariant_of-self-else-at-lt-NEAR : goal.invariant_of-self-else-at-lt-NEAR
-invariant_of-self-else-at-lt-NEAR g c =
+pub invariant_of-self-else-at-self : goal.invariant_of-self-else-at-self
+invariant_of-self-else-at-self g c =
     let v = c.self.inside in
     let i = c.self.invariant in
     let pages = c.make_page.new.pages.items in
     let far = c.make_page.new.far.items in
     let made = c.make_page.ensures in
-    let n = length-items v.none v.len v.near.items v.pages.items v.far.items in
+    let n = length-items v.edge v.none v.len v.near.items v.pages.items v.far.items in
     let r = rw (← c.self.view_is) at c.requires in
     let il : c.args.at < v.len = omega (arith, n, r) in
     let old : c.args.at < 1024 * length v.pages.items = elim i.whole [
-      | inl a ↦ absurd (omega (arith, a, il, c.if-at-lt-NEAR.false))
+      | inl a ↦ absurd (omega (arith, a, il, c.if-at-self.false))
       | inr b ↦ omega (arith, b, il)
     ] in
     let len = made.pages in
@@ -55,7 +55,7 @@ invariant_of-self-else-at-lt-NEAR g c =
       roomy_near = i.roomy_near;
       sound = sound-set v.none pages far made.sound c.args.at c.args.value ih made.made;
       whole = inr (elim i.whole [
-        | inl a ↦ absurd (omega (arith, a, il, c.if-at-lt-NEAR.false))
+        | inl a ↦ absurd (omega (arith, a, il, c.if-at-self.false))
         | inr b ↦ omega (arith, b, len)
       ]);
       long = (let l = made.long in omega (arith, l, length-set far (page_of pages c.args.at * 1024 + c.args.at % 1024) c.args.value));
@@ -65,28 +65,28 @@ invariant_of-self-else-at-lt-NEAR g c =
       few = i.few;
     })
 
-pub returns-then-at-lt-NEAR-clause-items : goal.returns-then-at-lt-NEAR-clause-items
-returns-then-at-lt-NEAR-clause-items g c =
+pub returns-then-at-self-clause-items : goal.returns-then-at-self-clause-items
+returns-then-at-self-clause-items g c =
     let v = c.self.inside in
-    let n = length-items v.none v.len v.near.items v.pages.items v.far.items in
+    let n = length-items v.edge v.none v.len v.near.items v.pages.items v.far.items in
     let r = rw (← c.self.view_is) at c.requires in
-    rw (← c.self.view_is) (near-set v.none v.len v.near.items c.reach.new.near.items v.pages.items v.far.items c.args.at c.args.value
-    c.reach.ensures.same c.reach.ensures.at (omega (arith, c.if-at-lt-NEAR.true)) (omega (arith, n, r)))
+    rw (← c.self.view_is) (near-set v.edge v.none v.len v.near.items c.reach.new.near.items v.pages.items v.far.items c.args.at c.args.value
+    c.reach.ensures.same c.reach.ensures.at (omega (arith, c.if-at-self.true)) (omega (arith, n, r)))
 
-pub returns-else-at-lt-NEAR-clause-items : goal.returns-else-at-lt-NEAR-clause-items
-returns-else-at-lt-NEAR-clause-items g c =
+pub returns-else-at-self-clause-items : goal.returns-else-at-self-clause-items
+returns-else-at-self-clause-items g c =
     let v = c.self.inside in
     let i = c.self.invariant in
     let pages = c.make_page.new.pages.items in
     let far = c.make_page.new.far.items in
     let made = c.make_page.ensures in
-    let n = length-items v.none v.len v.near.items v.pages.items v.far.items in
+    let n = length-items v.edge v.none v.len v.near.items v.pages.items v.far.items in
     let r = rw (← c.self.view_is) at c.requires in
     let il : c.args.at < v.len = omega (arith, n, r) in
     let len = made.pages in
     let ih : c.args.at < 1024 * length pages = elim i.whole [
-      | inl a ↦ absurd (omega (arith, a, il, c.if-at-lt-NEAR.false))
+      | inl a ↦ absurd (omega (arith, a, il, c.if-at-self.false))
       | inr b ↦ omega (arith, b, il, len)
     ] in
     let page : c.index.result.now ≡ page_of pages c.args.at = c.index.ensures ∙ get_or_default pages (c.args.at / 1024) c.index.result.now 0 (omega (arith, ih)) in
-    rw (page, ← c.self.view_is) (far-set v.none v.len v.near.items v.pages.items pages v.far.items far made.sound c.args.at c.args.value ih made.made made.same il (omega (arith, c.if-at-lt-NEAR.false)))
+    rw (page, ← c.self.view_is) (far-set v.edge v.none v.len v.near.items v.pages.items pages v.far.items far made.sound c.args.at c.args.value ih made.made made.same il (omega (arith, c.if-at-self.false)))
