@@ -1,11 +1,15 @@
 // Doubly linked lists in one table, linked by number: each head stands in a ring with the places of its list, so that a place is
 // put in and taken out with no test of the ends. A place notes its owner, and a head how many places it has.
+//
+// The links of a head are kept by what they differ in from its own number. So a head with no places is all zeros, as is a place that
+// was never in a list, and neither need be written.
 ghost use Rattle.std.specs.Prelude.{◌≡◌, ◌≤◌, ◌<◌, ◌+◌, ◌-◌, ◌^◌, ◌++◌, ◌∷◌, [], ℕ, length, slice_index_or, slice_set, MatchOption, OnOk, OnErr, List, Contains, ◌⊎◌, vec_len, None, Some, if◌then◌else◌, nat_lt, slice_get, slice_index};
-ghost use Rattle.q_arena.specs.Nodes.{node_at, IsNode, IsPut, IsJoined, IsTagged, blank, base};
-ghost use Rattle.q_arena.specs.Rings.{IsRelisted, AreSound, AreApart, Has, without, with_next, rings_of};
-ghost use Rattle.q_arena.specs.Chains.{Chains, list_at, following, preceding, HasSameLists, HasSameOwners, lists_of};
+ghost use Rattle.q_arena.specs.Nodes.{node_at, turned, IsNode, IsPut, IsJoined, IsTagged, base};
+ghost use Rattle.q_arena.specs.Rings.{IsRelisted, AreSound, AreApart, Has, without, with_next, rings_of, HaveSameBlanks};
+ghost use Rattle.q_arena.specs.Chains.{Chains, list_at, following, preceding, HasSameLists, HasSameOwners};
 
 use q_logic::NoMemory;
+use q_sparse::Sparse;
 use std::alloc::Global;
 use std::marker::Model;
 
@@ -23,36 +27,56 @@ const HEADS: u32 = 2_147_483_648;
 // So many places there may be, and so many heads.
 const MOST: usize = 2_147_483_648;
 
+// What is stored of a node that was never written.
+const BLANK: Link = Link {
+    next: 0,
+    prev: 0,
+    tag: 0,
+};
+
+// The link that a head's stored one stands for, and the reverse.
+#[inline(always)]
+fn turned(at: u32, link: Link) -> Link
+    ensures { result ≡ turned at link }
+{
+    Link {
+        next: link.next ^ at,
+        prev: link.prev ^ at,
+        tag: link.tag,
+    }
+}
+
 // The link of a node.
-fn node(places: &Vec<Link>, heads: &Vec<Link>, at: u32) -> Link
+fn node(places: &Sparse<Link>, heads: &Sparse<Link>, at: u32) -> Link
     requires at { IsNode (length places.now.items) (length heads.now.items) at }
     ensures { result ≡ node_at places.now.items heads.now.items at }
 {
     if at < HEADS {
-        places[at as usize]
+        places.get(at as usize)
     } else {
-        heads[(at - HEADS) as usize]
+        turned(at, heads.get((at - HEADS) as usize))
     }
 }
 
 // Writes the link of a node.
-fn put(places: &mut Vec<Link>, heads: &mut Vec<Link>, at: u32, link: Link)
+fn put(places: &mut Sparse<Link>, heads: &mut Sparse<Link>, at: u32, link: Link)
     requires at { IsNode (length places.old.items) (length heads.old.items) at }
     requires few { length places.old.items ≤ base }
     ensures put { IsPut (node_at places.old.items heads.old.items)
         (node_at places.new.items heads.new.items) at link }
     ensures places { length places.new.items ≡ length places.old.items }
     ensures heads { length heads.new.items ≡ length heads.old.items }
+    ensures blanks { HaveSameBlanks places.old heads.old places.new heads.new }
 {
     if at < HEADS {
-        places[at as usize] = link;
+        places.set(at as usize, link);
     } else {
-        heads[(at - HEADS) as usize] = link;
+        heads.set((at - HEADS) as usize, turned(at, link));
     }
 }
 
 // Makes the second node follow the first.
-fn join(places: &mut Vec<Link>, heads: &mut Vec<Link>, a: u32, b: u32)
+fn join(places: &mut Sparse<Link>, heads: &mut Sparse<Link>, a: u32, b: u32)
     requires a { IsNode (length places.old.items) (length heads.old.items) a }
     requires b { IsNode (length places.old.items) (length heads.old.items) b }
     requires few { length places.old.items ≤ base }
@@ -60,6 +84,7 @@ fn join(places: &mut Vec<Link>, heads: &mut Vec<Link>, a: u32, b: u32)
         (node_at places.new.items heads.new.items) a b }
     ensures places { length places.new.items ≡ length places.old.items }
     ensures heads { length heads.new.items ≡ length heads.old.items }
+    ensures blanks { HaveSameBlanks places.old heads.old places.new heads.new }
 {
     let mut first = node(places, heads, a);
     first.next = b;
@@ -70,13 +95,14 @@ fn join(places: &mut Vec<Link>, heads: &mut Vec<Link>, a: u32, b: u32)
 }
 
 // Writes the tag of a node.
-fn set_tag(places: &mut Vec<Link>, heads: &mut Vec<Link>, at: u32, tag: u32)
+fn set_tag(places: &mut Sparse<Link>, heads: &mut Sparse<Link>, at: u32, tag: u32)
     requires at { IsNode (length places.old.items) (length heads.old.items) at }
     requires few { length places.old.items ≤ base }
     ensures tagged { IsTagged (node_at places.old.items heads.old.items)
         (node_at places.new.items heads.new.items) at tag }
     ensures places { length places.new.items ≡ length places.old.items }
     ensures heads { length heads.new.items ≡ length heads.old.items }
+    ensures blanks { HaveSameBlanks places.old heads.old places.new heads.new }
 {
     let mut link = node(places, heads, at);
     link.tag = tag;
@@ -84,13 +110,14 @@ fn set_tag(places: &mut Vec<Link>, heads: &mut Vec<Link>, at: u32, tag: u32)
 }
 
 // Puts a place in front of the list of a head.
-fn put_front(places: &mut Vec<Link>, heads: &mut Vec<Link>, head: u32, place: u32)
+fn put_front(places: &mut Sparse<Link>, heads: &mut Sparse<Link>, head: u32, place: u32)
     requires head { head < length heads.old.items }
     requires place { place < length places.old.items }
     requires sound { AreSound places.old.items heads.old.items }
     requires fresh { (m : ℕ) → m < length heads.old.items
         → Has (rings_of (node_at places.old.items heads.old.items) base m) place → ⊥ }
-    ensures { IsRelisted places.old.items heads.old.items places.new.items heads.new.items head
+    ensures blanks { HaveSameBlanks places.old heads.old places.new heads.new }
+    ensures lists { IsRelisted places.old.items heads.old.items places.new.items heads.new.items head
         (place ∷ rings_of (node_at places.old.items heads.old.items) base head) }
 {
     let link = node(places, heads, HEADS + head);
@@ -100,14 +127,15 @@ fn put_front(places: &mut Vec<Link>, heads: &mut Vec<Link>, head: u32, place: u3
 }
 
 // Puts a place after one of the list of a head.
-fn put_after(places: &mut Vec<Link>, heads: &mut Vec<Link>, head: u32, after: u32, place: u32)
+fn put_after(places: &mut Sparse<Link>, heads: &mut Sparse<Link>, head: u32, after: u32, place: u32)
     requires head { head < length heads.old.items }
     requires place { place < length places.old.items }
     requires sound { AreSound places.old.items heads.old.items }
     requires there { Has (rings_of (node_at places.old.items heads.old.items) base head) after }
     requires fresh { (m : ℕ) → m < length heads.old.items
         → Has (rings_of (node_at places.old.items heads.old.items) base m) place → ⊥ }
-    ensures { IsRelisted places.old.items heads.old.items places.new.items heads.new.items head
+    ensures blanks { HaveSameBlanks places.old heads.old places.new heads.new }
+    ensures lists { IsRelisted places.old.items heads.old.items places.new.items heads.new.items head
         (with_next after place (rings_of (node_at places.old.items heads.old.items) base head)) }
 {
     let count = node(places, heads, HEADS + head).tag;
@@ -118,11 +146,12 @@ fn put_after(places: &mut Vec<Link>, heads: &mut Vec<Link>, head: u32, after: u3
 }
 
 // Takes a place out of the list of a head.
-fn take_out(places: &mut Vec<Link>, heads: &mut Vec<Link>, head: u32, place: u32)
+fn take_out(places: &mut Sparse<Link>, heads: &mut Sparse<Link>, head: u32, place: u32)
     requires head { head < length heads.old.items }
     requires sound { AreSound places.old.items heads.old.items }
     requires there { Has (rings_of (node_at places.old.items heads.old.items) base head) place }
-    ensures { IsRelisted places.old.items heads.old.items places.new.items heads.new.items head
+    ensures blanks { HaveSameBlanks places.old heads.old places.new heads.new }
+    ensures lists { IsRelisted places.old.items heads.old.items places.new.items heads.new.items head
         (without place (rings_of (node_at places.old.items heads.old.items) base head)) }
 {
     let count = node(places, heads, HEADS + head).tag;
@@ -134,13 +163,13 @@ fn take_out(places: &mut Vec<Link>, heads: &mut Vec<Link>, head: u32, place: u32
 /// For each head a list of places, and for each place its owner.
 #[derive(Drop)]
 pub struct Rings {
-    places: Vec<Link>,
-    heads: Vec<Link>,
+    places: Sparse<Link>,
+    heads: Sparse<Link>,
 }
 
 impl Model for Rings {
     ghost use Rattle.q_arena.specs.Chains.{Chains, lists_of, tags_of};
-    ghost use Rattle.q_arena.specs.Rings.{AreSound};
+    ghost use Rattle.q_arena.specs.Rings.{AreRows};
 
     ghost Value = { Chains };
 
@@ -149,7 +178,7 @@ impl Model for Rings {
       owners = tags_of r.places.items;
     } };
 
-    ghost invariant = { λ r. AreSound r.places.items r.heads.items };
+    ghost invariant = { λ r. AreRows r.places r.heads };
 }
 
 impl Rings {
@@ -157,8 +186,8 @@ impl Rings {
         ensures { result ≡ record { lists = []; owners = [] } }
     {
         Rings {
-            places: Vec::new(alloc),
-            heads: Vec::new(alloc),
+            places: Sparse::new(alloc, BLANK),
+            heads: Sparse::new(alloc, BLANK),
         }
     }
 
@@ -186,8 +215,8 @@ impl Rings {
         if room > MOST || heads > MOST {
             return Err(NoMemory);
         }
-        grow_places(&mut self.places, room)?;
-        grow_heads(&self.places, &mut self.heads, heads)
+        self.places.grow(room)?;
+        self.heads.grow(heads)
     }
 
     /// No place is in two lists or twice in one, and each is below the room.
@@ -206,14 +235,14 @@ impl Rings {
         requires { head < length self.now.lists }
         ensures { result ≡ length (list_at self.now head) }
     {
-        self.heads[head].tag
+        self.heads.get(head).tag
     }
 
     pub fn owner(&self, place: usize) -> u32
         requires { place < length self.now.owners }
         ensures { result ≡ slice_index self.now.owners place }
     {
-        self.places[place].tag
+        self.places.get(place).tag
     }
 
     /// The first place in the list of a head.
@@ -221,7 +250,7 @@ impl Rings {
         requires { head < length self.now.lists }
         ensures { result ≡ slice_get (list_at self.now head) 0 }
     {
-        place_of(self.heads[head].next)
+        place_of(self.heads.get(head).next ^ (HEADS + head as u32))
     }
 
     /// The place after one of a list.
@@ -230,7 +259,7 @@ impl Rings {
         ensures { (l : ℕ) → Has (list_at self.now l) place
             → result ≡ following place (list_at self.now l) }
     {
-        place_of(self.places[place].next)
+        place_of(self.places.get(place).next)
     }
 
     /// The place before one of a list.
@@ -239,7 +268,7 @@ impl Rings {
         ensures { (l : ℕ) → Has (list_at self.now l) place
             → result ≡ preceding place (list_at self.now l) }
     {
-        place_of(self.places[place].prev)
+        place_of(self.places.get(place).prev)
     }
 
     /// Puts a place that is in no list in front of the list of a head.
@@ -290,61 +319,4 @@ fn place_of(at: u32) -> Option<usize>
     ensures { result ≡ (if nat_lt at base then Some at else None) }
 {
     if at < HEADS { Some(at as usize) } else { None }
-}
-
-// Room for more places, in no list.
-fn grow_places(places: &mut Vec<Link>, room: usize) -> Result<(), NoMemory>
-    ensures room { OnOk result (room ≤ length places.new.items) }
-    ensures more { length places.old.items ≤ length places.new.items }
-    ensures exact { (length places.new.items ≡ length places.old.items)
-        ⊎ (length places.new.items ≡ room) }
-    ensures same { (k : ℕ) → slice_index_or places.new.items k blank
-        ≡ slice_index_or places.old.items k blank }
-{
-    if places.len() < room {
-        places.resize(
-            room,
-            Link {
-                next: 0,
-                prev: 0,
-                tag: 0,
-            },
-        )?;
-    }
-    Ok(())
-}
-
-// One more head, with an empty list.
-fn add_head(places: &Vec<Link>, heads: &mut Vec<Link>) -> Result<(), NoMemory>
-    requires sound { AreSound places.now.items heads.old.items }
-    requires few { length heads.old.items < base }
-    ensures sound { AreSound places.now.items heads.new.items }
-    ensures more { OnOk result (length heads.new.items ≡ length heads.old.items + 1) }
-    ensures same { OnErr result (length heads.new.items ≡ length heads.old.items) }
-    ensures lists { (l : ℕ) → slice_index_or (lists_of places.now.items heads.new.items) l []
-        ≡ slice_index_or (lists_of places.now.items heads.old.items) l [] }
-{
-    let at = HEADS + heads.len() as u32;
-    heads.push(Link {
-        next: at,
-        prev: at,
-        tag: 0,
-    })?;
-    Ok(())
-}
-
-// Heads up to a number.
-fn grow_heads(places: &Vec<Link>, heads: &mut Vec<Link>, upto: usize) -> Result<(), NoMemory>
-    requires sound { AreSound places.now.items heads.old.items }
-    requires few { upto ≤ base }
-    ensures sound { AreSound places.now.items heads.new.items }
-    ensures more { OnOk result (upto ≤ length heads.new.items) }
-    ensures kept { length heads.old.items ≤ length heads.new.items }
-    ensures lists { (l : ℕ) → slice_index_or (lists_of places.now.items heads.new.items) l []
-        ≡ slice_index_or (lists_of places.now.items heads.old.items) l [] }
-{
-    while heads.len() < upto {
-        add_head(places, heads)?;
-    }
-    Ok(())
 }

@@ -16,8 +16,8 @@ overflow_add-link c =
     let e : c.node-link.result.tag ≡ (node_at c.args.places.now.items c.args.heads.now.items (base + c.args.head)).tag = ap (λ k. k.tag) c.node-link.ensures in
     omega arith
 
-pub returns : goal.returns
-returns c =
+pub returns-clause-lists : goal.returns-clause-lists
+returns-clause-lists c =
     let s = node_at c.args.places.now.items c.args.heads.now.items in
     let t = node_at c.join.new.places.items c.join.new.heads.items in
     let u = node_at c.join-2.new.places.items c.join-2.new.heads.items in

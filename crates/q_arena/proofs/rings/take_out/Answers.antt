@@ -17,8 +17,8 @@ join-requires-clause-b c = rw c.node-link.ensures (IsNode-after c.args.places.no
 pub overflow_sub-count : goal.overflow_sub-count
 overflow_sub-count c = count-positive c.args.places.now.items c.args.heads.now.items c.requires.sound c.args.head c.requires.head c.args.place c.requires.there c.node-count.result.tag (ap (λ k. k.tag) c.node-count.ensures)
 
-pub returns : goal.returns
-returns c =
+pub returns-clause-lists : goal.returns-clause-lists
+returns-clause-lists c =
     let s = node_at c.args.places.now.items c.args.heads.now.items in
     let t = node_at c.join.new.places.items c.join.new.heads.items in
     let v = node_at c.set_tag.new.places.items c.set_tag.new.heads.items in
