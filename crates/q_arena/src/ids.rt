@@ -41,7 +41,7 @@ impl Ids {
         ensures { result ≡ record { used = []; free = []; size = 0 } }
     {
         Ids {
-            lists: Rings::new(alloc),
+            lists: Rings::plain(alloc),
         }
     }
 

@@ -182,11 +182,22 @@ impl Model for Rings {
 }
 
 impl Rings {
+    /// No heads and no places, of which few may come into lists.
     pub fn new(alloc: Global) -> Rings
         ensures { result ≡ record { lists = []; owners = [] } }
     {
         Rings {
             places: Sparse::new(alloc, BLANK),
+            heads: Sparse::new(alloc, BLANK),
+        }
+    }
+
+    /// The same where most places come into lists, in their order.
+    pub fn plain(alloc: Global) -> Rings
+        ensures { result ≡ record { lists = []; owners = [] } }
+    {
+        Rings {
+            places: Sparse::plain(alloc, BLANK),
             heads: Sparse::new(alloc, BLANK),
         }
     }

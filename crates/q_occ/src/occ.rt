@@ -29,7 +29,7 @@ impl Occ {
         ensures empty { IfOk result (λ o. (h p : ℕ) → Has (list_at o h) p → ⊥) }
         ensures vars { IfOk result (λ o. 2 * vars + 2 ≤ length o.lists) }
     {
-        let mut rings = Rings::new(alloc);
+        let mut rings = Rings::plain(alloc);
         rings.reserve(0, 2 * vars as usize + 2)?;
         Ok(Occ { rings })
     }
