@@ -9,7 +9,7 @@ ghost use Rattle.q_arena.specs.Rings.{IsRelisted, AreSound, AreApart, Has, witho
 ghost use Rattle.q_arena.specs.Chains.{Chains, list_at, following, preceding, HasSameLists, HasSameOwners};
 
 use q_logic::NoMemory;
-use q_sparse::Sparse;
+use q_sparse::{Filling, Sparse};
 use std::alloc::Global;
 use std::marker::Model;
 
@@ -182,23 +182,13 @@ impl Model for Rings {
 }
 
 impl Rings {
-    /// No heads and no places, of which few may come into lists.
-    pub fn new(alloc: Global) -> Rings
+    /// No heads and no places, and whether most of each come into lists or get one, or few do.
+    pub fn new(alloc: Global, places: Filling, heads: Filling) -> Rings
         ensures { result ≡ record { lists = []; owners = [] } }
     {
         Rings {
-            places: Sparse::new(alloc, BLANK),
-            heads: Sparse::new(alloc, BLANK),
-        }
-    }
-
-    /// The same where most places come into lists, in their order.
-    pub fn plain(alloc: Global) -> Rings
-        ensures { result ≡ record { lists = []; owners = [] } }
-    {
-        Rings {
-            places: Sparse::plain(alloc, BLANK),
-            heads: Sparse::new(alloc, BLANK),
+            places: Sparse::filled(alloc, BLANK, places),
+            heads: Sparse::filled(alloc, BLANK, heads),
         }
     }
 

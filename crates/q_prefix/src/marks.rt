@@ -4,7 +4,7 @@ ghost use Rattle.q_logic.specs.Prelude.{same_quant};
 ghost use Rattle.q_prefix.specs.Order.{mark_at, rank_of};
 
 use q_logic::{NoMemory, Quant};
-use q_sparse::Sparse;
+use q_sparse::{Filling, Sparse};
 use std::alloc::Global;
 use std::marker::Model;
 
@@ -48,7 +48,7 @@ pub fn same(a: Quant, b: Quant) -> bool
 }
 
 /// Marks of no number.
-pub fn no_marks(alloc: Global) -> Marks
+pub fn no_marks(alloc: Global, filling: Filling) -> Marks
     ensures { result.items ≡ [] }
 {
     let none = Mark {
@@ -57,7 +57,7 @@ pub fn no_marks(alloc: Global) -> Marks
         rank: 0,
     };
     Marks {
-        row: Sparse::new(alloc, none),
+        row: Sparse::filled(alloc, none, filling),
     }
 }
 

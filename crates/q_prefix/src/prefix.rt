@@ -11,6 +11,7 @@ use crate::blocks::{fill, join_blocks};
 use crate::marks::{Mark, Marks, grow_marks, mark_of, no_marks, set_mark};
 use q_arena::Rings;
 use q_logic::{Bound, NoMemory, Quant};
+use q_sparse::filling_of;
 use std::alloc::Global;
 use std::marker::Model;
 
@@ -51,9 +52,10 @@ impl Prefix {
             return Err(NoMemory);
         }
         let room = greatest as usize + 1;
-        let mut order = Rings::new(alloc);
+        let filling = filling_of(bounds.len(), greatest as usize);
+        let mut order = Rings::new(alloc, filling, filling);
         order.reserve(room, 1)?;
-        let mut marks = no_marks(alloc);
+        let mut marks = no_marks(alloc, filling);
         grow_marks(&mut marks, room)?;
         fill(&mut order, &mut marks, bounds);
         Ok(Prefix {

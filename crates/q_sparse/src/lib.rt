@@ -1,6 +1,6 @@
-//! A row by number that touches memory only where something was written.
+//! Rows by number, as a `Vec` is one, that touch memory only where something was written.
 #![tactic(auto)]
 
 mod sparse;
 
-pub use sparse::Sparse;
+pub use sparse::{Filling, Sparse, filling_of};

@@ -8,20 +8,42 @@ ghost use Rattle.std.specs.Prelude.{◌≡◌, ◌⊎◌, ◌≤◌, ◌<◌, �
 ghost use Rattle.q_pages.specs.Tables.{page_of};
 ghost use Rattle.q_pages.specs.Layout.{entry, IsSound};
 ghost use Rattle.q_sparse.specs.Rows.{item_at};
+ghost use Rattle.q_sparse.specs.Fillings.{filling_of};
 ghost use Rattle.q_sparse.specs.Layout.{given};
 
 use q_logic::NoMemory;
 use std::alloc::Global;
 use std::marker::Model;
 
-// Where pages begin, where most numbers may be without a value.
-const NEAR: usize = 1_048_576;
+// Where pages begin, unless it is said that most numbers are written, or few: with the literals of the variable 1,048,576.
+const NEAR: usize = 2_097_152;
+
+// Where they begin if few are written.
+const FEW: usize = 65_536;
 
 // So many numbers share a page.
 const PAGE: usize = 1_024;
 
 // So many numbers a row may have.
 const MOST: usize = 4_294_966_272;
+
+/// How many of a row's numbers will be written. It tells which stand in the plain row, where a look is quick.
+#[derive(Clone, Copy)]
+pub enum Filling {
+    Few,
+    Most,
+}
+
+/// Few numbers are written where the greatest is more than eight times their count.
+pub fn filling_of(count: usize, greatest: usize) -> Filling
+    ensures { result ≡ filling_of count greatest }
+{
+    if greatest / 8 > count {
+        Filling::Few
+    } else {
+        Filling::Most
+    }
+}
 
 /// A row of values by number. All are one value until they are written.
 #[derive(Drop)]
@@ -60,12 +82,15 @@ impl<T: Copy> Sparse<T> {
         Sparse::with_edge(alloc, none, NEAR)
     }
 
-    /// The same for a row in which most numbers are written, as their values come: all stand in the plain row.
-    pub fn plain(alloc: Global, none: T) -> Sparse<T>
+    /// The same where it is known how many numbers will be written.
+    pub fn filled(alloc: Global, none: T, filling: Filling) -> Sparse<T>
         ensures none { result.none ≡ none }
         ensures items { result.items ≡ [] }
     {
-        Sparse::with_edge(alloc, none, MOST)
+        match filling {
+            Filling::Few => Sparse::with_edge(alloc, none, FEW),
+            Filling::Most => Sparse::with_edge(alloc, none, MOST),
+        }
     }
 
     fn with_edge(alloc: Global, none: T, edge: usize) -> Sparse<T>
