@@ -12,7 +12,7 @@ use crate::grown::take_in;
 use crate::lists::{index_of, lits_of};
 use q_kernel::{ClauseId, Kernel};
 use q_logic::NoMemory;
-use q_sparse::Sparse;
+use q_sparse::{Filling, Sparse};
 use std::alloc::Global;
 
 #[derive(Drop)]
@@ -30,7 +30,7 @@ impl Looks {
         Looks {
             now: 0,
             touched: Sparse::new(alloc, 0),
-            looked: Sparse::new(alloc, 0),
+            looked: Sparse::filled(alloc, 0, Filling::Most),
         }
     }
 
