@@ -4,7 +4,7 @@
 // The links of a head are kept by what they differ in from its own number. So a head with no places is all zeros, as is a place that
 // was never in a list, and neither need be written.
 ghost use Rattle.std.specs.Prelude.{◌≡◌, ◌≤◌, ◌<◌, ◌+◌, ◌-◌, ◌^◌, ◌++◌, ◌∷◌, [], ℕ, length, slice_index_or, slice_set, MatchOption, OnOk, OnErr, List, Contains, ◌⊎◌, vec_len, None, Some, if◌then◌else◌, nat_lt, slice_get, slice_index};
-ghost use Rattle.q_arena.specs.Nodes.{node_at, turned, IsNode, IsPut, IsJoined, IsTagged, base};
+ghost use Rattle.q_arena.specs.Nodes.{node_at, turned, held, with_follower, with_leader, IsPut, IsTagged, base};
 ghost use Rattle.q_arena.specs.Rings.{IsRelisted, AreSound, AreApart, Has, without, with_next, rings_of, HaveSameBlanks};
 ghost use Rattle.q_arena.specs.Chains.{Chains, list_at, following, preceding, HasSameLists, HasSameOwners};
 
@@ -46,67 +46,107 @@ fn turned(at: u32, link: Link) -> Link
     }
 }
 
-// The link of a node.
-fn node(places: &Sparse<Link>, heads: &Sparse<Link>, at: u32) -> Link
-    requires at { IsNode (length places.now.items) (length heads.now.items) at }
-    ensures { result ≡ node_at places.now.items heads.now.items at }
+// The link of a head.
+#[inline(always)]
+fn head_link(heads: &Sparse<Link>, head: u32) -> Link
+    requires head { head < length heads.now.items }
+    requires few { length heads.now.items ≤ base }
+    ensures { (places : List Link) → result ≡ node_at places heads.now.items (base + head) }
 {
-    if at < HEADS {
-        places.get(at as usize)
-    } else {
-        turned(at, heads.get((at - HEADS) as usize))
+    turned(HEADS + head, heads.get(head as usize))
+}
+
+// The link of a place.
+#[inline(always)]
+fn place_link(places: &Sparse<Link>, at: u32) -> Link
+    requires at { at < length places.now.items }
+    requires few { length places.now.items ≤ base }
+    ensures { (heads : List Link) → result ≡ node_at places.now.items heads at }
+{
+    places.get(at as usize)
+}
+
+// Writes what follows a node in the ring of a head: the head itself, whose link is at hand and comes back, or a place.
+#[inline(always)]
+fn set_next(places: &mut Sparse<Link>, own: u32, link: Link, at: u32, next: u32) -> Link
+    requires own { base ≤ own }
+    requires at { (at < length places.old.items) ⊎ (at ≡ own) }
+    requires few { length places.old.items ≤ base }
+    ensures put { (heads : List Link) → IsPut (held places.old.items heads own link)
+        (held places.new.items heads own result) at
+        (with_follower (held places.old.items heads own link at) next) }
+    ensures places { length places.new.items ≡ length places.old.items }
+    ensures none { places.new.none ≡ places.old.none }
+{
+    if at == own {
+        return Link {
+            next,
+            prev: link.prev,
+            tag: link.tag,
+        };
     }
+    let seen = places.get(at as usize);
+    places.set(
+        at as usize,
+        Link {
+            next,
+            prev: seen.prev,
+            tag: seen.tag,
+        },
+    );
+    link
 }
 
-// Writes the link of a node.
-fn put(places: &mut Sparse<Link>, heads: &mut Sparse<Link>, at: u32, link: Link)
-    requires at { IsNode (length places.old.items) (length heads.old.items) at }
+// Writes what is before a node in the ring of a head, alike.
+#[inline(always)]
+fn set_prev(places: &mut Sparse<Link>, own: u32, link: Link, at: u32, prev: u32) -> Link
+    requires own { base ≤ own }
+    requires at { (at < length places.old.items) ⊎ (at ≡ own) }
     requires few { length places.old.items ≤ base }
-    ensures put { IsPut (node_at places.old.items heads.old.items)
-        (node_at places.new.items heads.new.items) at link }
+    ensures put { (heads : List Link) → IsPut (held places.old.items heads own link)
+        (held places.new.items heads own result) at
+        (with_leader (held places.old.items heads own link at) prev) }
     ensures places { length places.new.items ≡ length places.old.items }
-    ensures heads { length heads.new.items ≡ length heads.old.items }
-    ensures blanks { HaveSameBlanks places.old heads.old places.new heads.new }
+    ensures none { places.new.none ≡ places.old.none }
 {
-    if at < HEADS {
-        places.set(at as usize, link);
-    } else {
-        heads.set((at - HEADS) as usize, turned(at, link));
+    if at == own {
+        return Link {
+            next: link.next,
+            prev,
+            tag: link.tag,
+        };
     }
+    let seen = places.get(at as usize);
+    places.set(
+        at as usize,
+        Link {
+            next: seen.next,
+            prev,
+            tag: seen.tag,
+        },
+    );
+    link
 }
 
-// Makes the second node follow the first.
-fn join(places: &mut Sparse<Link>, heads: &mut Sparse<Link>, a: u32, b: u32)
-    requires a { IsNode (length places.old.items) (length heads.old.items) a }
-    requires b { IsNode (length places.old.items) (length heads.old.items) b }
+// Writes the tag of a place.
+#[inline(always)]
+fn set_tag(places: &mut Sparse<Link>, at: u32, tag: u32)
+    requires at { at < length places.old.items }
     requires few { length places.old.items ≤ base }
-    ensures joined { IsJoined (node_at places.old.items heads.old.items)
-        (node_at places.new.items heads.new.items) a b }
+    ensures tagged { (heads : List Link) → IsTagged (node_at places.old.items heads)
+        (node_at places.new.items heads) at tag }
     ensures places { length places.new.items ≡ length places.old.items }
-    ensures heads { length heads.new.items ≡ length heads.old.items }
-    ensures blanks { HaveSameBlanks places.old heads.old places.new heads.new }
+    ensures none { places.new.none ≡ places.old.none }
 {
-    let mut first = node(places, heads, a);
-    first.next = b;
-    put(places, heads, a, first);
-    let mut second = node(places, heads, b);
-    second.prev = a;
-    put(places, heads, b, second);
-}
-
-// Writes the tag of a node.
-fn set_tag(places: &mut Sparse<Link>, heads: &mut Sparse<Link>, at: u32, tag: u32)
-    requires at { IsNode (length places.old.items) (length heads.old.items) at }
-    requires few { length places.old.items ≤ base }
-    ensures tagged { IsTagged (node_at places.old.items heads.old.items)
-        (node_at places.new.items heads.new.items) at tag }
-    ensures places { length places.new.items ≡ length places.old.items }
-    ensures heads { length heads.new.items ≡ length heads.old.items }
-    ensures blanks { HaveSameBlanks places.old heads.old places.new heads.new }
-{
-    let mut link = node(places, heads, at);
-    link.tag = tag;
-    put(places, heads, at, link);
+    let seen = places.get(at as usize);
+    places.set(
+        at as usize,
+        Link {
+            next: seen.next,
+            prev: seen.prev,
+            tag,
+        },
+    );
 }
 
 // Puts a place in front of the list of a head.
@@ -120,10 +160,24 @@ fn put_front(places: &mut Sparse<Link>, heads: &mut Sparse<Link>, head: u32, pla
     ensures lists { IsRelisted places.old.items heads.old.items places.new.items heads.new.items head
         (place ∷ rings_of (node_at places.old.items heads.old.items) base head) }
 {
-    let link = node(places, heads, HEADS + head);
-    join(places, heads, HEADS + head, place);
-    join(places, heads, place, link.next);
-    set_tag(places, heads, HEADS + head, link.tag + 1);
+    let own = HEADS + head;
+    let link = head_link(heads, head);
+    let seen = place_link(places, place);
+    places.set(
+        place as usize,
+        Link {
+            next: link.next,
+            prev: own,
+            tag: seen.tag,
+        },
+    );
+    let ahead = Link {
+        next: place,
+        prev: link.prev,
+        tag: link.tag + 1,
+    };
+    let last = set_prev(places, own, ahead, link.next, place);
+    heads.set(head as usize, turned(own, last));
 }
 
 // Puts a place after one of the list of a head.
@@ -138,11 +192,26 @@ fn put_after(places: &mut Sparse<Link>, heads: &mut Sparse<Link>, head: u32, aft
     ensures lists { IsRelisted places.old.items heads.old.items places.new.items heads.new.items head
         (with_next after place (rings_of (node_at places.old.items heads.old.items) base head)) }
 {
-    let count = node(places, heads, HEADS + head).tag;
-    let link = node(places, heads, after);
-    join(places, heads, after, place);
-    join(places, heads, place, link.next);
-    set_tag(places, heads, HEADS + head, count + 1);
+    let own = HEADS + head;
+    let link = head_link(heads, head);
+    let before = place_link(places, after);
+    let counted = Link {
+        next: link.next,
+        prev: link.prev,
+        tag: link.tag + 1,
+    };
+    let ahead = set_next(places, own, counted, after, place);
+    let seen = place_link(places, place);
+    places.set(
+        place as usize,
+        Link {
+            next: before.next,
+            prev: after,
+            tag: seen.tag,
+        },
+    );
+    let last = set_prev(places, own, ahead, before.next, place);
+    heads.set(head as usize, turned(own, last));
 }
 
 // Takes a place out of the list of a head.
@@ -154,10 +223,17 @@ fn take_out(places: &mut Sparse<Link>, heads: &mut Sparse<Link>, head: u32, plac
     ensures lists { IsRelisted places.old.items heads.old.items places.new.items heads.new.items head
         (without place (rings_of (node_at places.old.items heads.old.items) base head)) }
 {
-    let count = node(places, heads, HEADS + head).tag;
-    let link = node(places, heads, place);
-    join(places, heads, link.prev, link.next);
-    set_tag(places, heads, HEADS + head, count - 1);
+    let own = HEADS + head;
+    let link = head_link(heads, head);
+    let seen = place_link(places, place);
+    let counted = Link {
+        next: link.next,
+        prev: link.prev,
+        tag: link.tag - 1,
+    };
+    let ahead = set_next(places, own, counted, seen.prev, seen.next);
+    let last = set_prev(places, own, ahead, seen.next, seen.prev);
+    heads.set(head as usize, turned(own, last));
 }
 
 /// For each head a list of places, and for each place its owner.
@@ -282,7 +358,7 @@ impl Rings {
         ensures owners { self.new.owners ≡ slice_set self.old.owners place owner }
     {
         put_front(&mut self.places, &mut self.heads, head as u32, place as u32);
-        set_tag(&mut self.places, &mut self.heads, place as u32, owner);
+        set_tag(&mut self.places, place as u32, owner);
     }
 
     /// Puts a place that is in no list directly after one of the list of a head.
@@ -301,7 +377,7 @@ impl Rings {
             after as u32,
             place as u32,
         );
-        set_tag(&mut self.places, &mut self.heads, place as u32, owner);
+        set_tag(&mut self.places, place as u32, owner);
     }
 
     /// Takes a place out of the list of a head.

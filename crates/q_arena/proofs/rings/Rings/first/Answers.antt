@@ -1,4 +1,4 @@
-use Rattle.std.proofs.Common.{ap, ◌∙◌, ◌+◌, arith, sym, length, get_or, ◌<◌, ◌≤◌, ℕ, Some, None}
+use Rattle.std.proofs.Common.{ap, ◌∙◌, ◌+◌, arith, sym, length, get_or, ◌<◌, Some, None}
 use Rattle.std.specs.Prelude.{if◌then◌else◌, nat_lt, bit_xor}
 use Rattle.q_arena.specs.declared.rings.Link.{Link}
 use Rattle.q_arena.specs.Nodes.{base}

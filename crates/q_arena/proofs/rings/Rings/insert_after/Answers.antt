@@ -1,4 +1,4 @@
-use Rattle.std.proofs.Common.{arith, sym, ◌∙◌, subst, ℕ, List}
+use Rattle.std.proofs.Common.{arith, refl, sym, ◌∙◌, subst, ℕ, List}
 use Rattle.q_arena.specs.Rings.{Has}
 use Rattle.q_arena.specs.Chains.{Chains, list_at}
 use Rattle.q_arena.proofs.ArenaView.{list-is, owned-sound, owned-lists, owned-owners, Has-head}
@@ -21,9 +21,9 @@ put_after-requires-clause-fresh c = λ m mh h.
 
 pub invariant_of-self : goal.invariant_of-self
 invariant_of-self c = record {
-  sound = owned-sound c.self.invariant.sound c.put_after.ensures.lists c.set_tag.new.places.items c.set_tag.new.heads.items c.set_tag.ensures.tagged c.set_tag.ensures.places c.set_tag.ensures.heads (rw (← c.self.view_is) at c.requires.place);
-  blank_places = c.set_tag.ensures.blanks.places ∙ c.put_after.ensures.blanks.places ∙ c.self.invariant.blank_places;
-  blank_heads = c.set_tag.ensures.blanks.heads ∙ c.put_after.ensures.blanks.heads ∙ c.self.invariant.blank_heads;
+  sound = owned-sound c.self.invariant.sound c.put_after.ensures.lists c.set_tag.new.places.items c.put_after.new.heads.items (c.set_tag.ensures.tagged c.put_after.new.heads.items) c.set_tag.ensures.places refl (rw (← c.self.view_is) at c.requires.place);
+  blank_places = c.set_tag.ensures.none ∙ c.put_after.ensures.blanks.places ∙ c.self.invariant.blank_places;
+  blank_heads = c.put_after.ensures.blanks.heads ∙ c.self.invariant.blank_heads;
 }
 
 pub returns-clause-lists : goal.returns-clause-lists
@@ -31,10 +31,10 @@ returns-clause-lists c =
     let p = c.self.inside.places.items in
     let h = c.self.inside.heads.items in
     let head = Has-head p h c.args.head c.args.after (rw (← c.self.view_is) at c.requires.after) in
-    rw (← c.self.view_is) (rw (list-is p h c.args.head) (owned-lists c.self.invariant.sound c.put_after.ensures.lists c.set_tag.new.places.items c.set_tag.new.heads.items c.set_tag.ensures.tagged c.set_tag.ensures.places c.set_tag.ensures.heads (rw (← c.self.view_is) at c.requires.place) head))
+    rw (← c.self.view_is) (rw (list-is p h c.args.head) (owned-lists c.self.invariant.sound c.put_after.ensures.lists c.set_tag.new.places.items c.put_after.new.heads.items (c.set_tag.ensures.tagged c.put_after.new.heads.items) c.set_tag.ensures.places refl (rw (← c.self.view_is) at c.requires.place) head))
 
 pub returns-clause-owners : goal.returns-clause-owners
-returns-clause-owners c = rw (← c.self.view_is) (owned-owners c.self.invariant.sound c.put_after.ensures.lists c.set_tag.new.places.items c.set_tag.new.heads.items c.set_tag.ensures.tagged c.set_tag.ensures.places c.set_tag.ensures.heads (rw (← c.self.view_is) at c.requires.place))
+returns-clause-owners c = rw (← c.self.view_is) (owned-owners c.self.invariant.sound c.put_after.ensures.lists c.set_tag.new.places.items c.put_after.new.heads.items (c.set_tag.ensures.tagged c.put_after.new.heads.items) c.set_tag.ensures.places refl (rw (← c.self.view_is) at c.requires.place))
 
 pub put_after-requires-clause-head : goal.put_after-requires-clause-head
 put_after-requires-clause-head c =

@@ -1,4 +1,4 @@
-use Rattle.std.proofs.Common.{arith, sym, ◌∙◌, subst, length, ◌<◌, ℕ, List}
+use Rattle.std.proofs.Common.{arith, refl, sym, ◌∙◌, subst, length, ◌<◌, ℕ, List}
 use Rattle.q_arena.specs.Rings.{Has}
 use Rattle.q_arena.specs.Chains.{Chains, list_at}
 use Rattle.q_arena.proofs.ArenaView.{list-is, length-lists, owned-sound, owned-lists, owned-owners}
@@ -11,9 +11,9 @@ put_front-requires-clause-fresh c = λ m mh h.
 
 pub invariant_of-self : goal.invariant_of-self
 invariant_of-self c = record {
-  sound = owned-sound c.self.invariant.sound c.put_front.ensures.lists c.set_tag.new.places.items c.set_tag.new.heads.items c.set_tag.ensures.tagged c.set_tag.ensures.places c.set_tag.ensures.heads (rw (← c.self.view_is) at c.requires.place);
-  blank_places = c.set_tag.ensures.blanks.places ∙ c.put_front.ensures.blanks.places ∙ c.self.invariant.blank_places;
-  blank_heads = c.set_tag.ensures.blanks.heads ∙ c.put_front.ensures.blanks.heads ∙ c.self.invariant.blank_heads;
+  sound = owned-sound c.self.invariant.sound c.put_front.ensures.lists c.set_tag.new.places.items c.put_front.new.heads.items (c.set_tag.ensures.tagged c.put_front.new.heads.items) c.set_tag.ensures.places refl (rw (← c.self.view_is) at c.requires.place);
+  blank_places = c.set_tag.ensures.none ∙ c.put_front.ensures.blanks.places ∙ c.self.invariant.blank_places;
+  blank_heads = c.put_front.ensures.blanks.heads ∙ c.self.invariant.blank_heads;
 }
 
 pub returns-clause-lists : goal.returns-clause-lists
@@ -22,10 +22,10 @@ returns-clause-lists c =
     let h = c.self.inside.heads.items in
     let lh = length-lists p h in
     let head : c.args.head < length h = omega (arith, lh, rw (← c.self.view_is) at c.requires.head) in
-    rw (← c.self.view_is) (rw (list-is p h c.args.head) (owned-lists c.self.invariant.sound c.put_front.ensures.lists c.set_tag.new.places.items c.set_tag.new.heads.items c.set_tag.ensures.tagged c.set_tag.ensures.places c.set_tag.ensures.heads (rw (← c.self.view_is) at c.requires.place) head))
+    rw (← c.self.view_is) (rw (list-is p h c.args.head) (owned-lists c.self.invariant.sound c.put_front.ensures.lists c.set_tag.new.places.items c.put_front.new.heads.items (c.set_tag.ensures.tagged c.put_front.new.heads.items) c.set_tag.ensures.places refl (rw (← c.self.view_is) at c.requires.place) head))
 
 pub returns-clause-owners : goal.returns-clause-owners
-returns-clause-owners c = rw (← c.self.view_is) (owned-owners c.self.invariant.sound c.put_front.ensures.lists c.set_tag.new.places.items c.set_tag.new.heads.items c.set_tag.ensures.tagged c.set_tag.ensures.places c.set_tag.ensures.heads (rw (← c.self.view_is) at c.requires.place))
+returns-clause-owners c = rw (← c.self.view_is) (owned-owners c.self.invariant.sound c.put_front.ensures.lists c.set_tag.new.places.items c.put_front.new.heads.items (c.set_tag.ensures.tagged c.put_front.new.heads.items) c.set_tag.ensures.places refl (rw (← c.self.view_is) at c.requires.place))
 
 pub put_front-requires-clause-head : goal.put_front-requires-clause-head
 put_front-requires-clause-head c =

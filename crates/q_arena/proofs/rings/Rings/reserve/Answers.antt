@@ -1,5 +1,5 @@
-use Rattle.std.proofs.Common.{arith, refl}
-use Rattle.q_arena.proofs.ArenaView.{length-lists, length-tags}
+use Rattle.std.proofs.Common.{refl}
+use Rattle.q_arena.proofs.ArenaView.{length-lists}
 use Rattle.q_arena.proofs.Growth.{AreRows-grown, few-grown, lists-kept, owners-kept}
 use Rattle.q_arena.proofs.rings.Rings.reserve.Goals as goal
 
