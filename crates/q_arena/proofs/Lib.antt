@@ -4,7 +4,6 @@ pub mod RingPaths
 pub mod RingLemmas
 pub mod SoundRings
 pub mod ArenaView
-pub mod HeldLinks
 pub mod Growth
 pub mod ListPredecessor
 pub mod Layouts

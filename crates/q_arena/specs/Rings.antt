@@ -2,8 +2,7 @@
 use Rattle.std.specs.Prelude.{◌≡◌, ◌≢◌, ◌⊎◌, ℕ, ◌+◌, ◌≤◌, ◌<◌, if◌then◌else◌, ◌==◌, List, [], ◌∷◌, length}
 use Rattle.std.proofs.Common.{zero, suc}
 use Rattle.q_arena.specs.declared.rings.Link.{Link}
-use Rattle.q_arena.specs.Nodes.{node_at, base, blank}
-use Rattle.q_sparse.specs.Rows.{Row}
+use Rattle.q_arena.specs.Nodes.{node_at, base}
 
 -- a way from one node over others to a last one
 abbrev pub IsPath : (ℕ → Link) → ℕ → List ℕ → ℕ → Type 0
@@ -78,14 +77,3 @@ pub record IsRelisted (p h q g : List Link) (l : ℕ) (ys : List ℕ) : Type 0 w
   pub places : length q ≡ length p
   pub heads : length g ≡ length h
   pub tags : (k : ℕ) → k < base → (node_at q g k).tag ≡ (node_at p h k).tag
-
--- the same stands where nothing is written
-pub record HaveSameBlanks (p h q g : Row Link) : Type 0 where
-  pub places : q.none ≡ p.none
-  pub heads : g.none ≡ h.none
-
--- sparse rows that hold a list for each head, blank where nothing is written
-pub record AreRows (places heads : Row Link) : Type 0 where
-  pub sound : AreSound places.items heads.items
-  pub blank_places : places.none ≡ blank
-  pub blank_heads : heads.none ≡ blank

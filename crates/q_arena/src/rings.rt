@@ -1,15 +1,11 @@
 // Doubly linked lists in one table, linked by number: each head stands in a ring with the places of its list, so that a place is
 // put in and taken out with no test of the ends. A place notes its owner, and a head how many places it has.
-//
-// The links of a head are kept by what they differ in from its own number. So a head with no places is all zeros, as is a place that
-// was never in a list, and neither need be written.
 ghost use Rattle.std.specs.Prelude.{◌≡◌, ◌≤◌, ◌<◌, ◌+◌, ◌-◌, ◌^◌, ◌++◌, ◌∷◌, [], ℕ, length, slice_index_or, slice_set, MatchOption, OnOk, OnErr, List, Contains, ◌⊎◌, vec_len, None, Some, if◌then◌else◌, nat_lt, slice_get, slice_index};
-ghost use Rattle.q_arena.specs.Nodes.{node_at, turned, held, with_follower, with_leader, IsPut, IsTagged, base};
-ghost use Rattle.q_arena.specs.Rings.{IsRelisted, AreSound, AreApart, Has, without, with_next, rings_of, HaveSameBlanks};
-ghost use Rattle.q_arena.specs.Chains.{Chains, list_at, following, preceding, HasSameLists, HasSameOwners};
+ghost use Rattle.q_arena.specs.Nodes.{node_at, IsNode, IsPut, IsJoined, IsTagged, blank, base};
+ghost use Rattle.q_arena.specs.Rings.{IsRelisted, AreSound, AreApart, Has, without, with_next, rings_of};
+ghost use Rattle.q_arena.specs.Chains.{Chains, list_at, following, preceding, HasSameLists, HasSameOwners, lists_of};
 
 use q_logic::NoMemory;
-use q_sparse::{Filling, Sparse};
 use std::alloc::Global;
 use std::marker::Model;
 
@@ -27,225 +23,124 @@ const HEADS: u32 = 2_147_483_648;
 // So many places there may be, and so many heads.
 const MOST: usize = 2_147_483_648;
 
-// What is stored of a node that was never written.
-const BLANK: Link = Link {
-    next: 0,
-    prev: 0,
-    tag: 0,
-};
-
-// The link that a head's stored one stands for, and the reverse.
-#[inline(always)]
-fn turned(at: u32, link: Link) -> Link
-    ensures { result ≡ turned at link }
+// The link of a node.
+fn node(places: &Vec<Link>, heads: &Vec<Link>, at: u32) -> Link
+    requires at { IsNode (length places.now.items) (length heads.now.items) at }
+    ensures { result ≡ node_at places.now.items heads.now.items at }
 {
-    Link {
-        next: link.next ^ at,
-        prev: link.prev ^ at,
-        tag: link.tag,
+    if at < HEADS {
+        places[at as usize]
+    } else {
+        heads[(at - HEADS) as usize]
     }
 }
 
-// The link of a head.
-#[inline(always)]
-fn head_link(heads: &Sparse<Link>, head: u32) -> Link
-    requires head { head < length heads.now.items }
-    requires few { length heads.now.items ≤ base }
-    ensures { (places : List Link) → result ≡ node_at places heads.now.items (base + head) }
-{
-    turned(HEADS + head, heads.get(head as usize))
-}
-
-// The link of a place.
-#[inline(always)]
-fn place_link(places: &Sparse<Link>, at: u32) -> Link
-    requires at { at < length places.now.items }
-    requires few { length places.now.items ≤ base }
-    ensures { (heads : List Link) → result ≡ node_at places.now.items heads at }
-{
-    places.get(at as usize)
-}
-
-// Writes what follows a node in the ring of a head: the head itself, whose link is at hand and comes back, or a place.
-#[inline(always)]
-fn set_next(places: &mut Sparse<Link>, own: u32, link: Link, at: u32, next: u32) -> Link
-    requires own { base ≤ own }
-    requires at { (at < length places.old.items) ⊎ (at ≡ own) }
+// Writes the link of a node.
+fn put(places: &mut Vec<Link>, heads: &mut Vec<Link>, at: u32, link: Link)
+    requires at { IsNode (length places.old.items) (length heads.old.items) at }
     requires few { length places.old.items ≤ base }
-    ensures put { (heads : List Link) → IsPut (held places.old.items heads own link)
-        (held places.new.items heads own result) at
-        (with_follower (held places.old.items heads own link at) next) }
+    ensures put { IsPut (node_at places.old.items heads.old.items)
+        (node_at places.new.items heads.new.items) at link }
     ensures places { length places.new.items ≡ length places.old.items }
-    ensures none { places.new.none ≡ places.old.none }
+    ensures heads { length heads.new.items ≡ length heads.old.items }
 {
-    if at == own {
-        return Link {
-            next,
-            prev: link.prev,
-            tag: link.tag,
-        };
+    if at < HEADS {
+        places[at as usize] = link;
+    } else {
+        heads[(at - HEADS) as usize] = link;
     }
-    let seen = places.get(at as usize);
-    places.set(
-        at as usize,
-        Link {
-            next,
-            prev: seen.prev,
-            tag: seen.tag,
-        },
-    );
-    link
 }
 
-// Writes what is before a node in the ring of a head, alike.
-#[inline(always)]
-fn set_prev(places: &mut Sparse<Link>, own: u32, link: Link, at: u32, prev: u32) -> Link
-    requires own { base ≤ own }
-    requires at { (at < length places.old.items) ⊎ (at ≡ own) }
+// Makes the second node follow the first.
+fn join(places: &mut Vec<Link>, heads: &mut Vec<Link>, a: u32, b: u32)
+    requires a { IsNode (length places.old.items) (length heads.old.items) a }
+    requires b { IsNode (length places.old.items) (length heads.old.items) b }
     requires few { length places.old.items ≤ base }
-    ensures put { (heads : List Link) → IsPut (held places.old.items heads own link)
-        (held places.new.items heads own result) at
-        (with_leader (held places.old.items heads own link at) prev) }
+    ensures joined { IsJoined (node_at places.old.items heads.old.items)
+        (node_at places.new.items heads.new.items) a b }
     ensures places { length places.new.items ≡ length places.old.items }
-    ensures none { places.new.none ≡ places.old.none }
+    ensures heads { length heads.new.items ≡ length heads.old.items }
 {
-    if at == own {
-        return Link {
-            next: link.next,
-            prev,
-            tag: link.tag,
-        };
-    }
-    let seen = places.get(at as usize);
-    places.set(
-        at as usize,
-        Link {
-            next: seen.next,
-            prev,
-            tag: seen.tag,
-        },
-    );
-    link
+    let mut first = node(places, heads, a);
+    first.next = b;
+    put(places, heads, a, first);
+    let mut second = node(places, heads, b);
+    second.prev = a;
+    put(places, heads, b, second);
 }
 
-// Writes the tag of a place.
-#[inline(always)]
-fn set_tag(places: &mut Sparse<Link>, at: u32, tag: u32)
-    requires at { at < length places.old.items }
+// Writes the tag of a node.
+fn set_tag(places: &mut Vec<Link>, heads: &mut Vec<Link>, at: u32, tag: u32)
+    requires at { IsNode (length places.old.items) (length heads.old.items) at }
     requires few { length places.old.items ≤ base }
-    ensures tagged { (heads : List Link) → IsTagged (node_at places.old.items heads)
-        (node_at places.new.items heads) at tag }
+    ensures tagged { IsTagged (node_at places.old.items heads.old.items)
+        (node_at places.new.items heads.new.items) at tag }
     ensures places { length places.new.items ≡ length places.old.items }
-    ensures none { places.new.none ≡ places.old.none }
+    ensures heads { length heads.new.items ≡ length heads.old.items }
 {
-    let seen = places.get(at as usize);
-    places.set(
-        at as usize,
-        Link {
-            next: seen.next,
-            prev: seen.prev,
-            tag,
-        },
-    );
+    let mut link = node(places, heads, at);
+    link.tag = tag;
+    put(places, heads, at, link);
 }
 
 // Puts a place in front of the list of a head.
-fn put_front(places: &mut Sparse<Link>, heads: &mut Sparse<Link>, head: u32, place: u32)
+fn put_front(places: &mut Vec<Link>, heads: &mut Vec<Link>, head: u32, place: u32)
     requires head { head < length heads.old.items }
     requires place { place < length places.old.items }
     requires sound { AreSound places.old.items heads.old.items }
     requires fresh { (m : ℕ) → m < length heads.old.items
         → Has (rings_of (node_at places.old.items heads.old.items) base m) place → ⊥ }
-    ensures blanks { HaveSameBlanks places.old heads.old places.new heads.new }
-    ensures lists { IsRelisted places.old.items heads.old.items places.new.items heads.new.items head
+    ensures { IsRelisted places.old.items heads.old.items places.new.items heads.new.items head
         (place ∷ rings_of (node_at places.old.items heads.old.items) base head) }
 {
-    let own = HEADS + head;
-    let link = head_link(heads, head);
-    let seen = place_link(places, place);
-    places.set(
-        place as usize,
-        Link {
-            next: link.next,
-            prev: own,
-            tag: seen.tag,
-        },
-    );
-    let ahead = Link {
-        next: place,
-        prev: link.prev,
-        tag: link.tag + 1,
-    };
-    let last = set_prev(places, own, ahead, link.next, place);
-    heads.set(head as usize, turned(own, last));
+    let link = node(places, heads, HEADS + head);
+    join(places, heads, HEADS + head, place);
+    join(places, heads, place, link.next);
+    set_tag(places, heads, HEADS + head, link.tag + 1);
 }
 
 // Puts a place after one of the list of a head.
-fn put_after(places: &mut Sparse<Link>, heads: &mut Sparse<Link>, head: u32, after: u32, place: u32)
+fn put_after(places: &mut Vec<Link>, heads: &mut Vec<Link>, head: u32, after: u32, place: u32)
     requires head { head < length heads.old.items }
     requires place { place < length places.old.items }
     requires sound { AreSound places.old.items heads.old.items }
     requires there { Has (rings_of (node_at places.old.items heads.old.items) base head) after }
     requires fresh { (m : ℕ) → m < length heads.old.items
         → Has (rings_of (node_at places.old.items heads.old.items) base m) place → ⊥ }
-    ensures blanks { HaveSameBlanks places.old heads.old places.new heads.new }
-    ensures lists { IsRelisted places.old.items heads.old.items places.new.items heads.new.items head
+    ensures { IsRelisted places.old.items heads.old.items places.new.items heads.new.items head
         (with_next after place (rings_of (node_at places.old.items heads.old.items) base head)) }
 {
-    let own = HEADS + head;
-    let link = head_link(heads, head);
-    let before = place_link(places, after);
-    let counted = Link {
-        next: link.next,
-        prev: link.prev,
-        tag: link.tag + 1,
-    };
-    let ahead = set_next(places, own, counted, after, place);
-    let seen = place_link(places, place);
-    places.set(
-        place as usize,
-        Link {
-            next: before.next,
-            prev: after,
-            tag: seen.tag,
-        },
-    );
-    let last = set_prev(places, own, ahead, before.next, place);
-    heads.set(head as usize, turned(own, last));
+    let count = node(places, heads, HEADS + head).tag;
+    let link = node(places, heads, after);
+    join(places, heads, after, place);
+    join(places, heads, place, link.next);
+    set_tag(places, heads, HEADS + head, count + 1);
 }
 
 // Takes a place out of the list of a head.
-fn take_out(places: &mut Sparse<Link>, heads: &mut Sparse<Link>, head: u32, place: u32)
+fn take_out(places: &mut Vec<Link>, heads: &mut Vec<Link>, head: u32, place: u32)
     requires head { head < length heads.old.items }
     requires sound { AreSound places.old.items heads.old.items }
     requires there { Has (rings_of (node_at places.old.items heads.old.items) base head) place }
-    ensures blanks { HaveSameBlanks places.old heads.old places.new heads.new }
-    ensures lists { IsRelisted places.old.items heads.old.items places.new.items heads.new.items head
+    ensures { IsRelisted places.old.items heads.old.items places.new.items heads.new.items head
         (without place (rings_of (node_at places.old.items heads.old.items) base head)) }
 {
-    let own = HEADS + head;
-    let link = head_link(heads, head);
-    let seen = place_link(places, place);
-    let counted = Link {
-        next: link.next,
-        prev: link.prev,
-        tag: link.tag - 1,
-    };
-    let ahead = set_next(places, own, counted, seen.prev, seen.next);
-    let last = set_prev(places, own, ahead, seen.next, seen.prev);
-    heads.set(head as usize, turned(own, last));
+    let count = node(places, heads, HEADS + head).tag;
+    let link = node(places, heads, place);
+    join(places, heads, link.prev, link.next);
+    set_tag(places, heads, HEADS + head, count - 1);
 }
 
 /// For each head a list of places, and for each place its owner.
 #[derive(Drop)]
 pub struct Rings {
-    places: Sparse<Link>,
-    heads: Sparse<Link>,
+    places: Vec<Link>,
+    heads: Vec<Link>,
 }
 
 impl Model for Rings {
     ghost use Rattle.q_arena.specs.Chains.{Chains, lists_of, tags_of};
-    ghost use Rattle.q_arena.specs.Rings.{AreRows};
+    ghost use Rattle.q_arena.specs.Rings.{AreSound};
 
     ghost Value = { Chains };
 
@@ -254,17 +149,16 @@ impl Model for Rings {
       owners = tags_of r.places.items;
     } };
 
-    ghost invariant = { λ r. AreRows r.places r.heads };
+    ghost invariant = { λ r. AreSound r.places.items r.heads.items };
 }
 
 impl Rings {
-    /// No heads and no places, and whether most of each come into lists or get one, or few do.
-    pub fn new(alloc: Global, places: Filling, heads: Filling) -> Rings
+    pub fn new(alloc: Global) -> Rings
         ensures { result ≡ record { lists = []; owners = [] } }
     {
         Rings {
-            places: Sparse::filled(alloc, BLANK, places),
-            heads: Sparse::filled(alloc, BLANK, heads),
+            places: Vec::new(alloc),
+            heads: Vec::new(alloc),
         }
     }
 
@@ -292,8 +186,8 @@ impl Rings {
         if room > MOST || heads > MOST {
             return Err(NoMemory);
         }
-        self.places.grow(room)?;
-        self.heads.grow(heads)
+        grow_places(&mut self.places, room)?;
+        grow_heads(&self.places, &mut self.heads, heads)
     }
 
     /// No place is in two lists or twice in one, and each is below the room.
@@ -312,14 +206,14 @@ impl Rings {
         requires { head < length self.now.lists }
         ensures { result ≡ length (list_at self.now head) }
     {
-        self.heads.get(head).tag
+        self.heads[head].tag
     }
 
     pub fn owner(&self, place: usize) -> u32
         requires { place < length self.now.owners }
         ensures { result ≡ slice_index self.now.owners place }
     {
-        self.places.get(place).tag
+        self.places[place].tag
     }
 
     /// The first place in the list of a head.
@@ -327,7 +221,7 @@ impl Rings {
         requires { head < length self.now.lists }
         ensures { result ≡ slice_get (list_at self.now head) 0 }
     {
-        place_of(self.heads.get(head).next ^ (HEADS + head as u32))
+        place_of(self.heads[head].next)
     }
 
     /// The place after one of a list.
@@ -336,7 +230,7 @@ impl Rings {
         ensures { (l : ℕ) → Has (list_at self.now l) place
             → result ≡ following place (list_at self.now l) }
     {
-        place_of(self.places.get(place).next)
+        place_of(self.places[place].next)
     }
 
     /// The place before one of a list.
@@ -345,7 +239,7 @@ impl Rings {
         ensures { (l : ℕ) → Has (list_at self.now l) place
             → result ≡ preceding place (list_at self.now l) }
     {
-        place_of(self.places.get(place).prev)
+        place_of(self.places[place].prev)
     }
 
     /// Puts a place that is in no list in front of the list of a head.
@@ -358,7 +252,7 @@ impl Rings {
         ensures owners { self.new.owners ≡ slice_set self.old.owners place owner }
     {
         put_front(&mut self.places, &mut self.heads, head as u32, place as u32);
-        set_tag(&mut self.places, place as u32, owner);
+        set_tag(&mut self.places, &mut self.heads, place as u32, owner);
     }
 
     /// Puts a place that is in no list directly after one of the list of a head.
@@ -377,7 +271,7 @@ impl Rings {
             after as u32,
             place as u32,
         );
-        set_tag(&mut self.places, place as u32, owner);
+        set_tag(&mut self.places, &mut self.heads, place as u32, owner);
     }
 
     /// Takes a place out of the list of a head.
@@ -396,4 +290,61 @@ fn place_of(at: u32) -> Option<usize>
     ensures { result ≡ (if nat_lt at base then Some at else None) }
 {
     if at < HEADS { Some(at as usize) } else { None }
+}
+
+// Room for more places, in no list.
+fn grow_places(places: &mut Vec<Link>, room: usize) -> Result<(), NoMemory>
+    ensures room { OnOk result (room ≤ length places.new.items) }
+    ensures more { length places.old.items ≤ length places.new.items }
+    ensures exact { (length places.new.items ≡ length places.old.items)
+        ⊎ (length places.new.items ≡ room) }
+    ensures same { (k : ℕ) → slice_index_or places.new.items k blank
+        ≡ slice_index_or places.old.items k blank }
+{
+    if places.len() < room {
+        places.resize(
+            room,
+            Link {
+                next: 0,
+                prev: 0,
+                tag: 0,
+            },
+        )?;
+    }
+    Ok(())
+}
+
+// One more head, with an empty list.
+fn add_head(places: &Vec<Link>, heads: &mut Vec<Link>) -> Result<(), NoMemory>
+    requires sound { AreSound places.now.items heads.old.items }
+    requires few { length heads.old.items < base }
+    ensures sound { AreSound places.now.items heads.new.items }
+    ensures more { OnOk result (length heads.new.items ≡ length heads.old.items + 1) }
+    ensures same { OnErr result (length heads.new.items ≡ length heads.old.items) }
+    ensures lists { (l : ℕ) → slice_index_or (lists_of places.now.items heads.new.items) l []
+        ≡ slice_index_or (lists_of places.now.items heads.old.items) l [] }
+{
+    let at = HEADS + heads.len() as u32;
+    heads.push(Link {
+        next: at,
+        prev: at,
+        tag: 0,
+    })?;
+    Ok(())
+}
+
+// Heads up to a number.
+fn grow_heads(places: &Vec<Link>, heads: &mut Vec<Link>, upto: usize) -> Result<(), NoMemory>
+    requires sound { AreSound places.now.items heads.old.items }
+    requires few { upto ≤ base }
+    ensures sound { AreSound places.now.items heads.new.items }
+    ensures more { OnOk result (upto ≤ length heads.new.items) }
+    ensures kept { length heads.old.items ≤ length heads.new.items }
+    ensures lists { (l : ℕ) → slice_index_or (lists_of places.now.items heads.new.items) l []
+        ≡ slice_index_or (lists_of places.now.items heads.old.items) l [] }
+{
+    while heads.len() < upto {
+        add_head(places, heads)?;
+    }
+    Ok(())
 }

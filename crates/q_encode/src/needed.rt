@@ -1,5 +1,6 @@
 //! The clauses of the formula that are not true at once under the circuits.
 ghost use Rattle.std.specs.Prelude.{◌≡◌, ◌<◌, ◌+◌, ◌^◌, length, IfOk};
+ghost use Rattle.q_logic.specs.Prelude.{greatest};
 ghost use Rattle.q_miter.specs.Miters.{needed as needed_clauses};
 ghost use Rattle.q_encode.specs.Translations.{AreNames, IsTranslation};
 
@@ -7,7 +8,6 @@ use crate::needless::is_needless;
 use crate::translating::translate;
 use q_aig::Certificate;
 use q_logic::{Clauses, Formula, Lit, NoMemory, sort_clause};
-use q_pages::ByNumber;
 use std::alloc::Global;
 
 /// The clauses that need selectors.
@@ -16,18 +16,19 @@ pub fn needed(
     formula: &Formula,
     circuits: &Certificate,
     top: u32,
-    circuit_lits: &ByNumber<Option<Lit>>,
+    row: &[Lit],
 ) -> Result<Clauses, NoMemory>
     requires names { AreNames circuits.now.inputs }
     requires room { top + length circuits.now.gates + 2 < 2 ^ 31 }
-    requires lits { IsTranslation top circuits.now circuit_lits.now }
+    requires top { greatest formula.now.prefix < length row.now }
+    requires row { IsTranslation top circuits.now row.now }
     ensures { IfOk result (λ kept. kept ≡ needed_clauses top circuits.now formula.now.matrix) }
 {
     let mut kept = Clauses::new(alloc);
     let mut made = Vec::new(alloc);
     for at in 0..formula.clauses() {
         let clause = formula.clause(at);
-        translate(circuit_lits, clause, &mut made)?;
+        translate(row, clause, &mut made)?;
         sort_clause(&mut made);
         if !is_needless(circuits.aig(), top, &made) {
             kept.push(clause)?;

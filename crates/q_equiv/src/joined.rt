@@ -11,9 +11,8 @@
 ghost use Rattle.std.specs.Prelude.{◌≡◌, ◌↔◌, ◌∷◌, [], Some, OnOk, IfOk, IsTrue};
 ghost use Rattle.q_logic.specs.Prelude.{Literal, IsBelow, negation, Clause, IsIn, ArePairs, slot, live, Binary, Joined};
 ghost use Rattle.q_kernel.specs.Prelude.{slots, HoldsLiteral};
-ghost use Rattle.q_equiv.specs.Walks.{IsSpread, IsGathered};
+ghost use Rattle.q_equiv.specs.Walks.{level_of, IsSpread, IsGathered};
 
-use crate::level_row::Levels;
 use q_kernel::{ClauseId, Kernel};
 use q_logic::{Lit, NoMemory};
 use q_rule::{Queue, clause_of};
@@ -23,7 +22,6 @@ use q_rule::{Queue, clause_of};
 pub fn is_joined(kernel: &Kernel, queue: &mut Queue, from: Lit, to: Lit) -> Result<bool, NoMemory>
     ensures { IfOk result (λ yes. IsTrue yes ↔ Joined (live (slots kernel.now)) to from) }
 {
-    let flat = Levels::new(kernel.allocator());
     queue.clear();
     queue.push(from)?;
     for head in 0..usize::MAX {
@@ -33,7 +31,7 @@ pub fn is_joined(kernel: &Kernel, queue: &mut Queue, from: Lit, to: Lit) -> Resu
         if head >= queue.len() {
             return Ok(false);
         }
-        spread(kernel, queue, &flat, queue.at(head))?;
+        spread(kernel, queue, &[], queue.at(head))?;
     }
     // a queue that long has no place in memory
     Err(NoMemory)
@@ -43,7 +41,7 @@ pub fn is_joined(kernel: &Kernel, queue: &mut Queue, from: Lit, to: Lit) -> Resu
 pub fn gather(
     kernel: &Kernel,
     queue: &mut Queue,
-    levels: &Levels,
+    levels: &[u32],
     from: Lit,
 ) -> Result<usize, NoMemory>
     ensures { OnOk result (IsGathered levels.now (live (slots kernel.now)) from queue.new) }
@@ -64,7 +62,7 @@ pub fn gather(
 }
 
 // Puts all literals of its level into the queue to which a clause of two literals leads from the literal.
-fn spread(kernel: &Kernel, queue: &mut Queue, levels: &Levels, lit: Lit) -> Result<(), NoMemory>
+fn spread(kernel: &Kernel, queue: &mut Queue, levels: &[u32], lit: Lit) -> Result<(), NoMemory>
     ensures { OnOk result (IsSpread levels.now (live (slots kernel.now)) lit queue.old queue.new) }
 {
     for id in kernel.holders(lit.negated()) {
@@ -77,7 +75,7 @@ fn spread(kernel: &Kernel, queue: &mut Queue, levels: &Levels, lit: Lit) -> Resu
 fn follow(
     kernel: &Kernel,
     queue: &mut Queue,
-    levels: &Levels,
+    levels: &[u32],
     id: ClauseId,
     lit: Lit,
 ) -> Result<(), NoMemory>
@@ -86,11 +84,18 @@ fn follow(
         → IsSpread levels.now (D ∷ []) lit queue.old queue.new) }
 {
     if let Some(next) = partner(clause_of(kernel, id), lit) {
-        if levels.of(next) == levels.of(lit) && !queue.has(next) {
+        if level(levels, next) == level(levels, lit) && !queue.has(next) {
             queue.push(next)?;
         }
     }
     Ok(())
+}
+
+/// The level of a literal: 0 where the row has none.
+pub fn level(levels: &[u32], lit: Lit) -> u32
+    ensures { result ≡ level_of levels.now lit }
+{
+    levels.get(lit.index()).copied().unwrap_or(0)
 }
 
 /// The literal to which a clause leads from a literal whose negation it holds: the other one of two.

@@ -7,11 +7,9 @@
 //!
 //! The clauses of a literal are a list, linked by their ids. Nothing here has to agree with the kernel.
 
-use crate::grown::take_in;
 use crate::lists::{index_of, lits_of};
 use q_kernel::{ClauseId, Kernel};
 use q_logic::{Lit, NoMemory};
-use q_sparse::Sparse;
 use std::alloc::Global;
 
 /// No clause has this id.
@@ -38,7 +36,7 @@ impl Entry {
 #[derive(Drop)]
 pub(crate) struct ClauseIndex {
     entries: Vec<Entry>,
-    first: Sparse<ClauseId>,
+    first: Vec<ClauseId>,
 }
 
 const NOWHERE: Entry = Entry {
@@ -54,7 +52,7 @@ impl ClauseIndex {
     pub(crate) fn new(alloc: Global) -> ClauseIndex {
         ClauseIndex {
             entries: Vec::new(alloc),
-            first: Sparse::new(alloc, NONE),
+            first: Vec::new(alloc),
         }
     }
 
@@ -89,7 +87,10 @@ impl ClauseIndex {
         if c as usize >= self.entries.len() {
             self.entries.resize(c as usize + 1, NOWHERE)?;
         }
-        take_in(&mut self.first, home)
+        if home as usize >= self.first.len() {
+            self.first.resize(home as usize + 1, NONE)?;
+        }
+        Ok(())
     }
 
     /// Takes a clause from its list.
@@ -117,7 +118,7 @@ impl ClauseIndex {
 
     /// The first clause that hangs at a literal.
     pub(crate) fn first(&self, home: u32) -> ClauseId {
-        self.first.get(home as usize)
+        self.first.get(home as usize).copied().unwrap_or(NONE)
     }
 
     /// Where a clause hangs.
@@ -138,10 +139,10 @@ fn put_entry(entries: &mut [Entry], c: ClauseId, entry: Entry) {
     }
 }
 
-fn put_first(first: &mut Sparse<ClauseId>, home: u32, c: ClauseId) {
+fn put_first(first: &mut [ClauseId], home: u32, c: ClauseId) {
     let place = home as usize;
     if place < first.len() {
-        first.set(place, c);
+        first[place] = c;
     }
 }
 

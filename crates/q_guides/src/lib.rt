@@ -10,7 +10,6 @@ mod cutting;
 mod eliminating;
 mod expanding;
 mod fields;
-mod grown;
 mod impatient;
 mod listed;
 mod lists;

@@ -3,15 +3,13 @@
 //! They are variables, ids of clauses or indices of literals. A mark tells that a number waits, so to put it in again costs
 //! nothing. The one that came last is the first to leave.
 
-use crate::grown::take_in;
 use q_logic::NoMemory;
-use q_sparse::Sparse;
 use std::alloc::Global;
 
 #[derive(Drop)]
 pub(crate) struct Marked {
     waiting: Vec<u32>,
-    marks: Sparse<bool>,
+    marks: Vec<bool>,
 }
 
 impl Marked {
@@ -19,7 +17,7 @@ impl Marked {
     pub(crate) fn new(alloc: Global) -> Marked {
         Marked {
             waiting: Vec::new(alloc),
-            marks: Sparse::new(alloc, false),
+            marks: Vec::new(alloc),
         }
     }
 
@@ -54,7 +52,7 @@ impl Marked {
     pub(crate) fn unmark(&mut self, number: u32) {
         let place = number as usize;
         if place < self.marks.len() {
-            self.marks.set(place, false);
+            self.marks[place] = false;
         }
     }
 
@@ -65,10 +63,15 @@ impl Marked {
 
     /// Marks a number; whether it was marked.
     pub(crate) fn mark(&mut self, number: u32) -> Result<bool, NoMemory> {
-        take_in(&mut self.marks, number)?;
         let place = number as usize;
-        let was = self.marks.get(place);
-        self.marks.set(place, true);
+        if place >= self.marks.len() {
+            self.marks.resize(place + 1, false)?;
+        }
+        if place >= self.marks.len() {
+            return Err(NoMemory);
+        }
+        let was = self.marks[place];
+        self.marks[place] = true;
         Ok(was)
     }
 }

@@ -7,7 +7,6 @@ ghost use Rattle.q_occ.specs.Places.{places_of, AreExact, with_linked, IsLinked,
 use crate::linking::{link_all, unlink_all};
 use q_arena::{Arena, ClauseId, Rings};
 use q_logic::{Lit, NoMemory};
-use q_sparse::Filling;
 use std::alloc::Global;
 use std::marker::Model;
 
@@ -26,12 +25,11 @@ impl Model for Occ {
 }
 
 impl Occ {
-    /// Lists for variables up to `vars`, of which most are literals' or few.
-    pub fn new(alloc: Global, vars: u32, filling: Filling) -> Result<Occ, NoMemory>
+    pub fn new(alloc: Global, vars: u32) -> Result<Occ, NoMemory>
         ensures empty { IfOk result (λ o. (h p : ℕ) → Has (list_at o h) p → ⊥) }
         ensures vars { IfOk result (λ o. 2 * vars + 2 ≤ length o.lists) }
     {
-        let mut rings = Rings::new(alloc, Filling::Most, filling);
+        let mut rings = Rings::new(alloc);
         rings.reserve(0, 2 * vars as usize + 2)?;
         Ok(Occ { rings })
     }

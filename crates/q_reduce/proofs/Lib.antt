@@ -8,4 +8,3 @@ pub mod ReduceResults
 pub mod RegionSeparation
 pub mod LearnedKept
 pub mod ListItems
-pub mod FirstBound

@@ -1,10 +1,9 @@
 //! Literals with a mark for each, so that it costs one look whether one of them is there.
-ghost use Rattle.std.specs.Prelude.{◌≡◌, ◌↔◌, ◌++◌, ◌∷◌, [], OnOk, OnErr, false, IsTrue};
-ghost use Rattle.q_logic.specs.Prelude.{has, IsIn};
+ghost use Rattle.std.specs.Prelude.{◌≡◌, ◌↔◌, ◌<◌, ◌++◌, ◌∷◌, [], ℕ, OnOk, OnErr, slice_index_or, vec_len, false, true, IsTrue};
+ghost use Rattle.q_logic.specs.Prelude.{pack, has, IsIn};
 ghost use Rattle.q_resolve.specs.Marks.{IsMarked};
 
 use q_logic::{Lit, NoMemory};
-use q_pages::ByNumber;
 use std::alloc::Global;
 use std::marker::Model;
 
@@ -12,11 +11,11 @@ use std::marker::Model;
 #[derive(Drop)]
 pub struct Marked {
     lits: Vec<Lit>,
-    marks: ByNumber<bool>,
+    marks: Vec<bool>,
 }
 
 impl Model for Marked {
-    ghost use Rattle.std.specs.Prelude.{◌≡◌, List, false};
+    ghost use Rattle.std.specs.Prelude.{List};
     ghost use Rattle.q_logic.specs.Prelude.{Literal};
     ghost use Rattle.q_resolve.specs.Marks.{IsMarked};
 
@@ -24,7 +23,7 @@ impl Model for Marked {
 
     ghost view = { λ q. q.lits.items };
 
-    ghost invariant = { λ q. IsMarked q.marks q.lits.items × (q.marks.far.none ≡ false) };
+    ghost invariant = { λ q. IsMarked q.marks.items q.lits.items };
 }
 
 impl Marked {
@@ -33,14 +32,14 @@ impl Marked {
     {
         Marked {
             lits: Vec::new(alloc),
-            marks: ByNumber::new(alloc, false),
+            marks: Vec::new(alloc),
         }
     }
 
     fn is_marked(&self, lit: Lit) -> bool
         ensures { IsTrue result ↔ IsIn lit self.now }
     {
-        self.marks.get(lit.index())
+        self.marks.get(lit.index()).copied().unwrap_or(false)
     }
 
     /// Whether the literal is marked.
@@ -54,9 +53,9 @@ impl Marked {
         ensures ok { OnOk result (self.new ≡ self.old ++ lit ∷ []) }
         ensures err { OnErr result (self.new ≡ self.old) }
     {
-        self.lits.reserve(1)?;
-        self.marks.put(lit.index(), true)?;
-        self.lits.push_reserved(lit);
+        make_room(&mut self.marks, lit)?;
+        self.lits.push(lit)?;
+        self.marks[lit.index()] = true;
         Ok(())
     }
 
@@ -66,7 +65,7 @@ impl Marked {
         &self.lits
     }
 
-    /// Takes all marks away, in as many steps as there are literals.
+    /// Takes all marks away. It costs what they are, not the row.
     pub fn clear(&mut self)
         ensures { self.new ≡ [] }
     {
@@ -86,16 +85,24 @@ pub fn mark(marked: &mut Marked, lits: &[Lit]) -> Result<(), NoMemory>
     Ok(())
 }
 
-// Takes the marks of the literals away, which are all that there are. A literal may stand there twice.
-fn unmark(marks: &mut ByNumber<bool>, lits: &[Lit])
-    requires marked { IsMarked marks.old lits.now }
-    requires none { marks.old.far.none ≡ false }
-    ensures marked { IsMarked marks.new [] }
-    ensures none { marks.new.far.none ≡ false }
+fn make_room(marks: &mut Vec<bool>, lit: Lit) -> Result<(), NoMemory>
+    ensures room { OnOk result (pack lit < vec_len marks.new) }
+    ensures same { (k : ℕ) → slice_index_or marks.new.items k false
+        ≡ slice_index_or marks.old.items k false }
+{
+    let end = lit.index() + 1;
+    if marks.len() < end {
+        marks.resize(end, false)?;
+    }
+    Ok(())
+}
+
+// Takes the marks of the literals away, which are all that there are.
+fn unmark(marks: &mut Vec<bool>, lits: &[Lit])
+    requires { IsMarked marks.old.items lits.now }
+    ensures { IsMarked marks.new.items [] }
 {
     for lit in lits {
-        if marks.get(lit.index()) {
-            marks.clear(lit.index());
-        }
+        marks[lit.index()] = false;
     }
 }

@@ -1,53 +1,43 @@
-use Rattle.std.proofs.Common.{◌≡◌, ◌∙◌, ◌+◌, ◌≤◌, arith, ap, length, refl, inl}
+use Rattle.std.proofs.Common.{◌≡◌, ◌∙◌, ◌+◌, ◌≤◌, arith, ap, length}
 use Rattle.q_arena.specs.Nodes.{node_at, base}
 use Rattle.q_arena.specs.Rings.{rings_of}
-use Rattle.q_arena.proofs.ArenaView.{length-set'}
 use Rattle.q_arena.proofs.RingLemmas.{tag-kept}
 use Rattle.q_arena.proofs.RingInsertion.{AreRings-after}
-use Rattle.q_arena.proofs.HeldLinks.{joined, joined-is, after-steps}
-use Rattle.q_arena.proofs.SoundRings.{IsOn-after, place-below, count-fits}
+use Rattle.q_arena.proofs.SoundRings.{IsNode-place, IsNode-after, count-fits}
 use Rattle.q_arena.proofs.rings.put_after.Goals as goal
 
-pub overflow_add-counted : goal.overflow_add-counted
-overflow_add-counted c =
+pub node-link-requires : goal.node-link-requires
+node-link-requires c = record { at = IsNode-place c.args.places.now.items c.args.heads.now.items c.requires.sound c.args.head c.requires.head c.args.after c.requires.there }
+
+pub join-requires-clause-a : goal.join-requires-clause-a
+join-requires-clause-a c = IsNode-place c.args.places.now.items c.args.heads.now.items c.requires.sound c.args.head c.requires.head c.args.after c.requires.there
+
+pub join-requires-2-clause-b : goal.join-requires-2-clause-b
+join-requires-2-clause-b c =
+    rw (c.join.ensures.places, c.join.ensures.heads, c.node-link.ensures)
+    (IsNode-after c.args.places.now.items c.args.heads.now.items c.requires.sound c.args.head c.requires.head c.args.after c.requires.there)
+
+pub overflow_add-count : goal.overflow_add-count
+overflow_add-count c =
     let fits = count-fits c.args.places.now.items c.args.heads.now.items c.requires.sound c.args.head c.requires.head c.args.place c.requires.place c.requires.fresh in
-    let e : c.head_link-link.result.tag ≡ (node_at c.args.places.now.items c.args.heads.now.items (base + c.args.head)).tag = ap (λ k. k.tag) (c.head_link-link.ensures c.args.places.now.items) in
+    let e : c.node-count.result.tag ≡ (node_at c.args.places.now.items c.args.heads.now.items (base + c.args.head)).tag = ap (λ k. k.tag) c.node-count.ensures in
     omega arith
 
-pub returns-clause-lists : goal.returns-clause-lists
-returns-clause-lists c =
-    let p = c.args.places.now.items in
-    let h = c.args.heads.now.items in
-    let s = node_at p h in
-    let own = base + c.args.head in
-    let few : length p ≤ base = c.requires.sound.few_places in
-    let o = c.set_next-ahead.new.places.items in
-    let q = c.set.new.self.items in
-    let r = c.set_prev-last.new.places.items in
-    let g = c.set-2.new.self.items in
-    let t = joined s c.args.after c.args.place in
-    let u = joined t c.args.place (s c.args.after).next in
-    let below = place-below p h c.requires.sound c.args.head c.requires.head c.args.after c.requires.there in
-    let tagged = after-steps p h c.args.head c.requires.head few o q r g c.args.after c.args.place c.head_link-link.result c.place_link-before.result c.place_link-seen.result c.set_next-ahead.result c.set_prev-last.result c.turned.result below c.set_next-ahead.ensures.places c.requires.place
-    (c.head_link-link.ensures p) (c.place_link-before.ensures h) (c.set_next-ahead.ensures.put h) (c.place_link-seen.ensures h) c.set.ensures.items (c.set_prev-last.ensures.put h) c.turned.ensures c.set-2.ensures.items in
+pub returns : goal.returns
+returns c =
+    let s = node_at c.args.places.now.items c.args.heads.now.items in
+    let t = node_at c.join.new.places.items c.join.new.heads.items in
+    let u = node_at c.join-2.new.places.items c.join-2.new.heads.items in
+    let v = node_at c.set_tag.new.places.items c.set_tag.new.heads.items in
+    let few : length c.args.places.now.items ≤ base = c.requires.sound.few_places in
     record {
-      rings = AreRings-after s t u (node_at r g) base (length p) (length h) (rings_of s base) c.args.head c.args.after c.args.place (s own).tag
+      rings = AreRings-after s t u v base (length c.args.places.now.items) (length c.args.heads.now.items) (rings_of s base) c.args.head c.args.after c.args.place c.node-count.result.tag
           c.requires.sound.rings few c.requires.head c.requires.place c.requires.there c.requires.fresh
-          (joined-is s c.args.after c.args.place) (joined-is t c.args.place (s c.args.after).next) refl tagged;
-      places = c.set_prev-last.ensures.places ∙ ap length c.set.ensures.items ∙ length-set' o c.args.place _ ∙ c.set_next-ahead.ensures.places;
-      heads = ap length c.set-2.ensures.items ∙ length-set' h c.args.head _;
-      tags = λ i ib. tag-kept u (node_at r g) base c.args.head _ i tagged ib;
+          c.join.ensures.joined
+          (rw (← c.node-link.ensures) c.join-2.ensures.joined)
+          (ap (λ k. k.tag) c.node-count.ensures)
+          c.set_tag.ensures.tagged;
+      places = c.set_tag.ensures.places ∙ c.join-2.ensures.places ∙ c.join.ensures.places;
+      heads = c.set_tag.ensures.heads ∙ c.join-2.ensures.heads ∙ c.join.ensures.heads;
+      tags = λ i ib. tag-kept u v base c.args.head _ i c.set_tag.ensures.tagged ib ∙ c.join-2.ensures.joined.tag i ∙ c.join.ensures.joined.tag i;
     }
-
-pub place_link-before-requires-clause-at : goal.place_link-before-requires-clause-at
-place_link-before-requires-clause-at c = place-below c.args.places.now.items c.args.heads.now.items c.requires.sound c.args.head c.requires.head c.args.after c.requires.there
-
-pub set_next-ahead-requires-clause-at : goal.set_next-ahead-requires-clause-at
-set_next-ahead-requires-clause-at c = inl (place-below c.args.places.now.items c.args.heads.now.items c.requires.sound c.args.head c.requires.head c.args.after c.requires.there)
-
-pub set_prev-last-requires-clause-at : goal.set_prev-last-requires-clause-at
-set_prev-last-requires-clause-at c =
-    let p = c.args.places.now.items in
-    let h = c.args.heads.now.items in
-    let long : length c.set.new.self.items ≡ length p = ap length c.set.ensures.items ∙ length-set' c.set_next-ahead.new.places.items c.args.place _ ∙ c.set_next-ahead.ensures.places in
-    rw (long, c.place_link-before.ensures h) (IsOn-after p h c.requires.sound c.args.head c.requires.head c.args.after c.requires.there)

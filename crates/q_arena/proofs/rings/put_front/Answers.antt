@@ -1,43 +1,35 @@
 use Rattle.std.proofs.Common.{◌≡◌, ◌∙◌, ◌+◌, ◌≤◌, arith, ap, length}
 use Rattle.q_arena.specs.Nodes.{node_at, base}
 use Rattle.q_arena.specs.Rings.{rings_of}
-use Rattle.q_arena.proofs.ArenaView.{length-set'}
 use Rattle.q_arena.proofs.RingLemmas.{tag-kept, AreRings-with}
-use Rattle.q_arena.proofs.HeldLinks.{joined, joined-is, front-steps}
-use Rattle.q_arena.proofs.SoundRings.{IsOn-first, count-fits}
+use Rattle.q_arena.proofs.SoundRings.{IsNode-first, count-fits}
 use Rattle.q_arena.proofs.rings.put_front.Goals as goal
 
-pub overflow_add-ahead : goal.overflow_add-ahead
-overflow_add-ahead c =
+pub join-requires-2-clause-b : goal.join-requires-2-clause-b
+join-requires-2-clause-b c =
+    rw (c.join.ensures.places, c.join.ensures.heads, c.node-link.ensures)
+    (IsNode-first c.args.places.now.items c.args.heads.now.items c.requires.sound c.args.head c.requires.head)
+
+pub overflow_add-link : goal.overflow_add-link
+overflow_add-link c =
     let fits = count-fits c.args.places.now.items c.args.heads.now.items c.requires.sound c.args.head c.requires.head c.args.place c.requires.place c.requires.fresh in
-    let e : c.head_link-link.result.tag ≡ (node_at c.args.places.now.items c.args.heads.now.items (base + c.args.head)).tag = ap (λ k. k.tag) (c.head_link-link.ensures c.args.places.now.items) in
+    let e : c.node-link.result.tag ≡ (node_at c.args.places.now.items c.args.heads.now.items (base + c.args.head)).tag = ap (λ k. k.tag) c.node-link.ensures in
     omega arith
 
-pub returns-clause-lists : goal.returns-clause-lists
-returns-clause-lists c =
-    let p = c.args.places.now.items in
-    let h = c.args.heads.now.items in
-    let s = node_at p h in
-    let own = base + c.args.head in
-    let few : length p ≤ base = c.requires.sound.few_places in
-    let q = c.set.new.self.items in
-    let r = c.set_prev-last.new.places.items in
-    let g = c.set-2.new.self.items in
-    let t = joined s own c.args.place in
-    let u = joined t c.args.place (s own).next in
-    let tagged = front-steps p h c.args.head c.requires.head few q r g c.args.place c.head_link-link.result c.place_link-seen.result c.set_prev-last.result c.turned.result c.requires.place
-    (c.head_link-link.ensures p) (c.place_link-seen.ensures h) c.set.ensures.items (c.set_prev-last.ensures.put h) c.turned.ensures c.set-2.ensures.items in
+pub returns : goal.returns
+returns c =
+    let s = node_at c.args.places.now.items c.args.heads.now.items in
+    let t = node_at c.join.new.places.items c.join.new.heads.items in
+    let u = node_at c.join-2.new.places.items c.join-2.new.heads.items in
+    let v = node_at c.set_tag.new.places.items c.set_tag.new.heads.items in
+    let few : length c.args.places.now.items ≤ base = c.requires.sound.few_places in
     record {
-      rings = AreRings-with s t u (node_at r g) base (length p) (length h) (rings_of s base) c.args.head c.args.place
+      rings = AreRings-with s t u v base (length c.args.places.now.items) (length c.args.heads.now.items) (rings_of s base) c.args.head c.args.place
           c.requires.sound.rings few c.requires.head c.requires.place c.requires.fresh
-          (joined-is s own c.args.place) (joined-is t c.args.place (s own).next) tagged;
-      places = c.set_prev-last.ensures.places ∙ ap length c.set.ensures.items ∙ length-set' p c.args.place _;
-      heads = ap length c.set-2.ensures.items ∙ length-set' h c.args.head _;
-      tags = λ i ib. tag-kept u (node_at r g) base c.args.head _ i tagged ib;
+          c.join.ensures.joined
+          (rw (← c.node-link.ensures) c.join-2.ensures.joined)
+          (rw (← c.node-link.ensures) c.set_tag.ensures.tagged);
+      places = c.set_tag.ensures.places ∙ c.join-2.ensures.places ∙ c.join.ensures.places;
+      heads = c.set_tag.ensures.heads ∙ c.join-2.ensures.heads ∙ c.join.ensures.heads;
+      tags = λ i ib. tag-kept u v base c.args.head _ i c.set_tag.ensures.tagged ib ∙ c.join-2.ensures.joined.tag i ∙ c.join.ensures.joined.tag i;
     }
-
-pub set_prev-last-requires-clause-at : goal.set_prev-last-requires-clause-at
-set_prev-last-requires-clause-at c =
-    let p = c.args.places.now.items in
-    let long : length c.set.new.self.items ≡ length p = ap length c.set.ensures.items ∙ length-set' p c.args.place _ in
-    rw (long, c.head_link-link.ensures p) (IsOn-first p c.args.heads.now.items c.requires.sound c.args.head c.requires.head)

@@ -1,3 +1,0 @@
-pub mod Rows
-pub mod Layout
-pub mod Fillings
