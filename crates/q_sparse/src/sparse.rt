@@ -121,13 +121,24 @@ impl<T: Copy> Sparse<T> {
     {
         if at < self.near.len() {
             self.near[at]
-        } else if at < self.edge {
-            self.none
-        } else if at < self.len {
-            far_item(&self.pages, &self.far, at)
         } else {
-            self.none
+            self.get_beyond(at)
         }
+    }
+
+    // The same where the number is seldom in the plain row. It is a call of its own, so that a look stays small in its callers.
+    #[cold]
+    #[inline(never)]
+    fn get_beyond(&self, at: usize) -> T
+        ensures { result ≡ item_at self.now at }
+    {
+        if at < self.edge {
+            return near_item(&self.near, at, self.none);
+        }
+        if at < self.len {
+            return far_item(&self.pages, &self.far, at);
+        }
+        self.none
     }
 
     /// Puts a value at a number of the row.
@@ -145,6 +156,8 @@ impl<T: Copy> Sparse<T> {
     }
 
     // The same where the number may not be in the plain row yet, or has none there.
+    #[cold]
+    #[inline(never)]
     fn set_first(&mut self, at: usize, value: T)
         requires { at < length self.old.items }
         ensures items { self.new.items ≡ slice_set self.old.items at value }
@@ -190,6 +203,13 @@ fn pages_for(edge: usize, len: usize) -> usize
     ensures few { result ≤ 4194304 }
 {
     if len > edge { len / PAGE + 1 } else { 0 }
+}
+
+// The value at a number of the plain row, also past what is filled.
+fn near_item<T: Copy>(near: &Vec<T>, at: usize, none: T) -> T
+    ensures { result ≡ slice_index_or near.now.items at none }
+{
+    near.get(at).copied().unwrap_or(none)
 }
 
 // The value at a number whose page there is.
