@@ -65,7 +65,10 @@ impl Looks {
 }
 
 fn put_stamp(stamps: &mut Sparse<u32>, number: u32, stamp: u32) -> Result<(), NoMemory> {
-    take_in(stamps, number)?;
-    stamps.set(number as usize, stamp);
+    let place = number as usize;
+    if place >= stamps.len() {
+        take_in(stamps, number)?;
+    }
+    stamps.set(place, stamp);
     Ok(())
 }

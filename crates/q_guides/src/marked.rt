@@ -65,8 +65,10 @@ impl Marked {
 
     /// Marks a number; whether it was marked.
     pub(crate) fn mark(&mut self, number: u32) -> Result<bool, NoMemory> {
-        take_in(&mut self.marks, number)?;
         let place = number as usize;
+        if place >= self.marks.len() {
+            take_in(&mut self.marks, number)?;
+        }
         let was = self.marks.get(place);
         self.marks.set(place, true);
         Ok(was)
