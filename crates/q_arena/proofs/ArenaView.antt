@@ -1,18 +1,22 @@
 -- What a caller sees, after a change of the rows.
-use Rattle.std.proofs.Common.{◌≡◌, ℕ, zero, suc, ◌+◌, ◌<◌, ◌≤◌, List, [], ◌∷◌, length, map, set, get_or, slice_get, None, Some, refl, sym, ◌∙◌, ap, subst, inl, inr, arith}
-use Rattle.std.specs.Prelude.{if◌then◌else◌, nat_lt}
+use Rattle.std.proofs.Common.{◌≡◌, ℕ, zero, suc, ◌+◌, ◌-◌, ◌<◌, ◌≤◌, List, [], ◌∷◌, length, map, set, get_or, slice_get, None, Some, refl, sym, ◌∙◌, ap, subst, inl, inr, arith}
+use Rattle.std.specs.Prelude.{if◌then◌else◌, nat_lt, false}
+use Rattle.std.proofs.lemmas.List.FromFn.{length-map-range_with_len, get_or-map-range_with_len}
 use Rattle.std.proofs.lemmas.List.{ext_get_or, get_or-set_same, get_or-set_other, get_or_past}
 use Rattle.std.proofs.lemmas.Bool.Decides.{nat_tests}
 use Rattle.std.proofs.lemmas.Bool.{cases_lt, cases_eq}
 use Rattle.q_arena.proofs.ListNeighbours.{following-here, following-later}
 use Rattle.q_arena.specs.declared.rings.Link.{Link}
-use Rattle.q_arena.specs.Nodes.{node_at, base, blank, IsTagged}
+use Rattle.q_arena.specs.Nodes.{node_at, turned, base, blank, IsTagged}
 use Rattle.q_arena.specs.Rings.{IsRelisted, IsPath, walk, Has, AreApart, AreBelow, IsRing, AreRings, AreSound, rings_of, with_list}
 use Rattle.q_arena.specs.Chains.{lists_of, tags_of, following}
 use Rattle.q_arena.proofs.RingLemmas.{AreRings-tagged, Has-below, AreRings-own, ring-is, with_list-here, with_list-other}
 
-pub node_at-head : (places heads : List Link) (l : ℕ) → node_at places heads (base + l) ≡ get_or heads l blank
-node_at-head places heads l = grind (arith, nat_tests)
+pub node_at-head : (places heads : List Link) (l : ℕ) → node_at places heads (base + l) ≡ turned (base + l) (get_or heads l blank)
+node_at-head places heads l =
+    let e : nat_lt (base + l) base ≡ false = grind (arith, nat_tests) in
+    let m : base + l - base ≡ l = omega arith in
+    rw (e, m) refl
 
 pub node_at-place : (places heads : List Link) (k : ℕ) → k < base → node_at places heads k ≡ get_or places k blank
 node_at-place places heads k h = grind (arith, nat_tests)
@@ -27,14 +31,21 @@ module _ {X Y : Type 0} (f : X → Y) (d : X) where
   length-mapped [] = refl
   length-mapped (x ∷ xs) = ap suc (length-mapped xs)
 
-pub list-is : (places heads : List Link) (l : ℕ) → get_or (lists_of places heads) l [] ≡ rings_of (node_at places heads) base l
-list-is places heads l =
+-- past the heads there is nothing
+pub ring-past : (places heads : List Link) (l : ℕ) → length heads ≤ l → rings_of (node_at places heads) base l ≡ []
+ring-past places heads l h =
     let s : ℕ → Link = node_at places heads in
-    let f : Link → List ℕ = λ h. walk s h.tag h.next in
-    get_or-mapped f blank heads l ∙ ap f (sym (node_at-head places heads l))
+    let e : s (base + l) ≡ turned (base + l) blank = node_at-head places heads l ∙ ap (λ (k : Link). turned (base + l) k) (get_or_past heads l blank h) in
+    ap (λ (k : Link). walk s k.tag k.next) e
 
 pub length-lists : (places heads : List Link) → length (lists_of places heads) ≡ length heads
-length-lists places heads = length-mapped (λ h. walk (node_at places heads) h.tag h.next) blank heads
+length-lists places heads = length-map-range_with_len (λ l. rings_of (node_at places heads) base l) 0 (length heads)
+
+pub list-is : (places heads : List Link) (l : ℕ) → get_or (lists_of places heads) l [] ≡ rings_of (node_at places heads) base l
+list-is places heads l = elim (cases_lt l (length heads)) [
+  | inl a ↦ get_or-map-range_with_len (λ l. rings_of (node_at places heads) base l) 0 (length heads) l l [] a (omega arith)
+  | inr b ↦ get_or_past (lists_of places heads) l [] (rw length-lists b) ∙ sym (ring-past places heads l b)
+]
 
 pub length-tags : (places : List Link) → length (tags_of places) ≡ length places
 length-tags places = length-mapped (λ k. k.tag) blank places
@@ -164,7 +175,7 @@ module _ (places heads : List Link) (s : AreSound places heads) where
       let r : IsRing (node_at places heads) (length places) (base + l) (rings_of (node_at places heads) base l) = the-ring l lh in
       ap (λ (k : Link). k.tag) (sym (node_at-head places heads l)) ∙ r.count ∙ ap length (sym (list-is places heads l))
 
-  pub first-is : (l : ℕ) → l < length heads → slice_get (get_or (lists_of places heads) l []) 0 ≡ (if nat_lt (get_or heads l blank).next base then Some (get_or heads l blank).next else None)
+  pub first-is : (l : ℕ) → l < length heads → slice_get (get_or (lists_of places heads) l []) 0 ≡ (if nat_lt (turned (base + l) (get_or heads l blank)).next base then Some (turned (base + l) (get_or heads l blank)).next else None)
   first-is l lh =
       let ys : List ℕ = rings_of (node_at places heads) base l in
       let r : IsRing (node_at places heads) (length places) (base + l) ys = the-ring l lh in

@@ -4,6 +4,7 @@ pub mod RingPaths
 pub mod RingLemmas
 pub mod SoundRings
 pub mod ArenaView
+pub mod HeldLinks
 pub mod Growth
 pub mod ListPredecessor
 pub mod Layouts

@@ -1,20 +1,24 @@
 -- Rows of links that hold a list for each head.
 use Rattle.std.proofs.Common.{◌≡◌, ◌⊎◌, ℕ, ◌+◌, ◌<◌, ◌≤◌, List, [], ◌∷◌, length, inl, inr, arith}
 use Rattle.q_arena.specs.declared.rings.Link.{Link}
-use Rattle.q_arena.specs.Nodes.{node_at, IsNode, base}
+use Rattle.q_arena.specs.Nodes.{node_at, base}
 use Rattle.q_arena.specs.Rings.{Has, AreBelow, IsRing, AreSound, rings_of}
 use Rattle.q_arena.proofs.RingPaths.{Misses-from, prev_in, next_in}
 use Rattle.q_arena.proofs.RingLemmas.{Has-below, first_in, length-below}
 
-IsNode-on : (P H l k : ℕ) (ys : List ℕ) → P ≤ base → l < H → AreBelow P ys → Has ys k ⊎ (k ≡ base + l) → IsNode P H k
-IsNode-on P H l k ys few lh b (inl h) = let lt : k < P = Has-below P k ys b h in inl (omega arith, lt)
-IsNode-on P H l k ys few lh b (inr e) = inr (omega arith, omega arith)
+-- on the ring of a head: a place, or the head itself
+abbrev pub IsOn : ℕ → ℕ → ℕ → Type 0
+IsOn P l k = (k < P) ⊎ (k ≡ base + l)
+
+IsOn-of : (P l k : ℕ) (ys : List ℕ) → AreBelow P ys → Has ys k ⊎ (k ≡ base + l) → IsOn P l k
+IsOn-of P l k ys b (inl h) = inl (Has-below P k ys b h)
+IsOn-of P l k ys b (inr e) = inr e
 
 module _ (places heads : List Link) (s : AreSound places heads) (l : ℕ) (lh : l < length heads) where
-  pub IsNode-first : IsNode (length places) (length heads) (node_at places heads (base + l)).next
-  IsNode-first =
+  pub IsOn-first : IsOn (length places) l (node_at places heads (base + l)).next
+  IsOn-first =
       let r : IsRing (node_at places heads) (length places) (base + l) (rings_of (node_at places heads) base l) = s.rings.each l lh in
-      IsNode-on (length places) (length heads) l (node_at places heads (base + l)).next (rings_of (node_at places heads) base l) s.few_places lh r.below
+      IsOn-of (length places) l (node_at places heads (base + l)).next (rings_of (node_at places heads) base l) r.below
       (first_in (node_at places heads) (base + l) (rings_of (node_at places heads) base l) (base + l) r.path)
 
   pub count-fits : (p : ℕ) → p < length places → ((m : ℕ) → m < length heads → Has (rings_of (node_at places heads) base m) p → ⊥) → (node_at places heads (base + l)).tag + 1 < 4294967296
@@ -32,24 +36,21 @@ module _ (places heads : List Link) (s : AreSound places heads) (l : ℕ) (lh : 
         let r : IsRing (node_at places heads) (length places) (base + l) (rings_of (node_at places heads) base l) = s.rings.each l lh in
         Has-below (length places) p (rings_of (node_at places heads) base l) r.below h
 
-    pub IsNode-place : IsNode (length places) (length heads) p
-    IsNode-place = IsNode-on (length places) (length heads) l p (rings_of (node_at places heads) base l) s.few_places lh (s.rings.each l lh).below (inl h)
-
-    pub IsNode-before : IsNode (length places) (length heads) (node_at places heads p).prev
-    IsNode-before =
+    pub IsOn-before : IsOn (length places) l (node_at places heads p).prev
+    IsOn-before =
         let ys : List ℕ = rings_of (node_at places heads) base l in
         let r : IsRing (node_at places heads) (length places) (base + l) ys = s.rings.each l lh in
-        IsNode-on (length places) (length heads) l (node_at places heads p).prev ys s.few_places lh r.below
+        IsOn-of (length places) l (node_at places heads p).prev ys r.below
         (elim (prev_in (node_at places heads) (base + l) ys (base + l) p r.path h) [
           | inl e ↦ inr e
           | inr i ↦ inl i
         ])
 
-    pub IsNode-after : IsNode (length places) (length heads) (node_at places heads p).next
-    IsNode-after =
+    pub IsOn-after : IsOn (length places) l (node_at places heads p).next
+    IsOn-after =
         let ys : List ℕ = rings_of (node_at places heads) base l in
         let r : IsRing (node_at places heads) (length places) (base + l) ys = s.rings.each l lh in
-        IsNode-on (length places) (length heads) l (node_at places heads p).next ys s.few_places lh r.below
+        IsOn-of (length places) l (node_at places heads p).next ys r.below
         (next_in (node_at places heads) (base + l) ys (base + l) p r.path h)
 
     pub count-positive : (n : ℕ) → n ≡ (node_at places heads (base + l)).tag → 1 ≤ n

@@ -1,15 +1,16 @@
 -- What a caller sees of the rows: a list of places for each head, and an owner for each place.
-use Rattle.std.specs.Prelude.{◌≡◌, ℕ, if◌then◌else◌, ◌==◌, List, [], ◌∷◌, map, Option, None, Some, slice_get, slice_index_or}
+use Rattle.std.specs.List.{range_with_len}
+use Rattle.std.specs.Prelude.{◌≡◌, ℕ, length, if◌then◌else◌, ◌==◌, List, [], ◌∷◌, map, Option, None, Some, slice_get, slice_index_or}
 use Rattle.q_arena.specs.declared.rings.Link.{Link}
-use Rattle.q_arena.specs.Nodes.{node_at}
-use Rattle.q_arena.specs.Rings.{walk}
+use Rattle.q_arena.specs.Nodes.{node_at, base}
+use Rattle.q_arena.specs.Rings.{rings_of}
 
 pub record Chains : Type 0 where
   pub lists : List (List ℕ)
   pub owners : List ℕ
 
 abbrev pub lists_of : List Link → List Link → List (List ℕ)
-lists_of places heads = map (λ h. walk (node_at places heads) h.tag h.next) heads
+lists_of places heads = map (λ l. rings_of (node_at places heads) base l) (range_with_len 0 (length heads))
 
 abbrev pub tags_of : List Link → List ℕ
 tags_of places = map (λ k. k.tag) places

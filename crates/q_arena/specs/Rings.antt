@@ -1,8 +1,9 @@
 -- Lists of places as rings of nodes.
-use Rattle.std.specs.Prelude.{◌≡◌, ◌≢◌, ◌⊎◌, ℕ, ◌+◌, ◌≤◌, ◌<◌, if◌then◌else◌, ◌==◌, List, [], ◌∷◌, length}
+use Rattle.std.specs.Prelude.{Bool, IsTrue, ◌≡◌, ◌≢◌, ◌⊎◌, ℕ, ◌+◌, ◌≤◌, ◌<◌, if◌then◌else◌, ◌==◌, List, [], ◌∷◌, length}
 use Rattle.std.proofs.Common.{zero, suc}
 use Rattle.q_arena.specs.declared.rings.Link.{Link}
-use Rattle.q_arena.specs.Nodes.{node_at, base}
+use Rattle.q_arena.specs.Nodes.{node_at, IsTagged, base, blank}
+use Rattle.q_sparse.specs.Rows.{Row}
 
 -- a way from one node over others to a last one
 abbrev pub IsPath : (ℕ → Link) → ℕ → List ℕ → ℕ → Type 0
@@ -77,3 +78,30 @@ pub record IsRelisted (p h q g : List Link) (l : ℕ) (ys : List ℕ) : Type 0 w
   pub places : length q ≡ length p
   pub heads : length g ≡ length h
   pub tags : (k : ℕ) → k < base → (node_at q g k).tag ≡ (node_at p h k).tag
+
+-- the same stands where nothing is written, and full rows stay so
+pub record AreAlike (p h q g : Row Link) : Type 0 where
+  pub places : q.none ≡ p.none
+  pub heads : g.none ≡ h.none
+  pub full_places : q.full ≡ p.full
+  pub full_heads : g.full ≡ h.full
+
+-- both rows are full, if that is said
+pub record AreFull (said : Bool) (p h : Row Link) : Type 0 where
+  pub places : IsTrue said → IsTrue p.full
+  pub heads : IsTrue said → IsTrue h.full
+
+-- a place stands in front of the list of a head, and has its owner; between the two steps the places were `mid`
+pub record IsFront (p h q g : Row Link) (l place owner : ℕ) : Type 0 where
+  pub mid : List Link
+  pub lists : IsRelisted p.items h.items mid g.items l (place ∷ rings_of (node_at p.items h.items) base l)
+  pub tagged : (heads : List Link) → IsTagged (node_at mid heads) (node_at q.items heads) place owner
+  pub long : length q.items ≡ length mid
+  pub alike : AreAlike p h q g
+
+-- sparse rows that hold a list for each head, blank where nothing is written
+pub record AreRows (said : Bool) (places heads : Row Link) : Type 0 where
+  pub sound : AreSound places.items heads.items
+  pub blank_places : places.none ≡ blank
+  pub blank_heads : heads.none ≡ blank
+  pub full : AreFull said places heads

@@ -6,6 +6,7 @@ ghost use Rattle.q_arena.specs.Layout.{Order};
 
 use crate::rings::Rings;
 use q_logic::NoMemory;
+use q_sparse::Filling;
 use std::alloc::Global;
 use std::marker::Model;
 
@@ -41,7 +42,7 @@ impl Ids {
         ensures { result ≡ record { used = []; free = []; size = 0 } }
     {
         Ids {
-            lists: Rings::new(alloc),
+            lists: Rings::new(alloc, Filling::Most, Filling::Most),
         }
     }
 

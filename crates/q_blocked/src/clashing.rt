@@ -10,6 +10,7 @@ use q_logic::{Lit, NoMemory};
 use q_rule::{Queue, clause_of};
 
 /// Makes the set that of the literals of a clause.
+#[inline]
 pub fn fill(set: &mut Queue, clause: &[Lit]) -> Result<(), NoMemory>
     ensures { OnOk result (set.new ≡ clause.now) }
 {
@@ -49,6 +50,7 @@ fn hits(kernel: &Kernel, set: &Queue, m: Lit, k: Lit) -> bool
 }
 
 /// Whether a clause clashes with the set on a literal whose negation it holds.
+#[inline]
 pub fn clashes(kernel: &Kernel, set: &Queue, clause: &[Lit], l: Lit) -> bool
     requires within { Within kernel.now.prefix clause.now }
     requires bound { is_bound kernel.now.prefix l.var ≡ true }
@@ -76,6 +78,7 @@ fn passes(kernel: &Kernel, set: &Queue, c: ClauseId, d: ClauseId, l: Lit) -> boo
 
 /// Whether each clause but c that holds the negation of a literal clashes with the set on it. It stops at the first
 /// one that does not.
+#[inline]
 pub fn all_clash(kernel: &Kernel, set: &Queue, c: ClauseId, l: Lit) -> bool
     ensures { IsTrue result ↔ AllClash kernel.now.prefix (others c (slots kernel.now)) l set.now }
 {

@@ -95,6 +95,7 @@ fn outside(clause: &[Lit], set: &Queue) -> Option<Places> {
 }
 
 // Whether the literals at two places show that the clause gives nothing.
+#[inline]
 fn shows_none(clause: &[Lit], set: &Queue, places: Places) -> bool
     requires { IsTautology set.now → ⊥ }
     ensures { result ≡ true → GivesNone set.now clause.now }

@@ -77,6 +77,7 @@ fn put(page: &mut Vec<Pair>, place: usize, pair: Pair) -> Result<(), NoMemory> {
 }
 
 // Whether the clause of an id is not c, holds the negation of l, and does not clash with the set.
+#[inline]
 fn is_open(kernel: &Kernel, set: &Queue, c: ClauseId, d: ClauseId, l: Lit) -> bool
     ensures { result ≡ true → IsOpenAt kernel.now.prefix (slots kernel.now) c d l set.now }
 {

@@ -49,6 +49,7 @@ fn outer_sign(kernel: &Kernel, lit: Lit, ids: &[ClauseId], others: &[ClauseId]) 
 }
 
 // The same, for the literal first.
+#[inline]
 fn outer_side(kernel: &Kernel, lit: Lit, ids: &[ClauseId], others: &[ClauseId]) -> Option<Lit>
     requires ids { AreIdsOf kernel.now lit ids.now }
     requires others { AreIdsOf kernel.now (negation lit) others.now }
@@ -65,6 +66,7 @@ fn outer_side(kernel: &Kernel, lit: Lit, ids: &[ClauseId], others: &[ClauseId]) 
 }
 
 // Whether the clauses hold only variables outer or same to one.
+#[inline]
 fn are_outer(kernel: &Kernel, ids: &[ClauseId], x: u32) -> bool
     requires live { AreLive (slots kernel.now) ids.now }
     requires bound { is_bound kernel.now.prefix x ≡ true }

@@ -53,6 +53,7 @@ pub fn gain_of(
 }
 
 /// Marks the literals of a clause but one.
+#[inline]
 pub fn mark(marks: &mut Queue, clause: &[Lit], out: Lit) -> Result<(), NoMemory>
     ensures { OnOk result (marks.new ≡ without out clause.now) }
 {

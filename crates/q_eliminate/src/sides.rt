@@ -33,6 +33,7 @@ impl Sides {
 }
 
 // The ids of the clauses that hold a literal.
+#[inline]
 fn collect(kernel: &Kernel, lit: Lit, ids: &mut Vec<ClauseId>) -> Result<(), NoMemory>
     ensures { OnOk result (AreIdsOf kernel.now lit ids.new.items) }
 {

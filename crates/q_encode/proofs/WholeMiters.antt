@@ -1,13 +1,12 @@
 -- All clauses of a miter, put one after the other.
-use Rattle.std.proofs.Common.{◌≡◌, ℕ, ◌+◌, ◌≤◌, ◌<◌, [], ◌∷◌, ◌++◌, length, refl, sym, ap, ◌∙◌, subst, arith}
-use Rattle.q_logic.specs.Prelude.{Clause, Matrix, PrenexFormula, IsIn, IsFormula, CertificateView, clause_of, greatest}
+use Rattle.std.proofs.Common.{◌≡◌, ℕ, ◌≤◌, [], ◌∷◌, ◌++◌, length, refl, sym, ap, ◌∙◌, arith}
+use Rattle.q_logic.specs.Prelude.{Clause, Matrix, PrenexFormula, CertificateView, clause_of}
 use Rattle.q_aig.specs.Prelude.{Net, net_of}
 use Rattle.q_miter.specs.Miters.{top_of, gate_definitions, translated_matrix, selections, selectors, in_order, needed, lean_miter, herbrand_miter}
-use Rattle.q_miter.proofs.Lean.{needed-IsIn, length-needed}
+use Rattle.q_miter.proofs.Lean.{length-needed}
 use Rattle.q_encode.specs.Selected.{selector_row}
-use Rattle.q_encode.specs.Translations.{bare, AreUpTo}
+use Rattle.q_encode.specs.Translations.{bare}
 use Rattle.q_encode.proofs.MadeRows.{in_order-append, selectors-row}
-use Rattle.q_encode.proofs.Translated.{up-bound}
 
 definitions-put : (top : ℕ) (c : CertificateView) (a : Net) (r1 r2 : Matrix) → a ≡ net_of c → r1 ≡ [] → r2 ≡ r1 ++ in_order (gate_definitions top (bare a)) →
     r2 ≡ in_order (gate_definitions top c)
@@ -43,11 +42,3 @@ skolem-made F c top n k a r1 r2 r3 r4 kept s t e m l f g w z h i =
 -- the clauses that are kept
 pub kept-room : (F : PrenexFormula) (c : CertificateView) (top : ℕ) (kept : Matrix) → kept ≡ needed top c F.matrix → length kept ≤ length F.matrix
 kept-room F c top kept e = let z : length kept ≡ length (needed top c F.matrix) = ap (λ (X : Matrix). length X) e in let l = length-needed top c F.matrix in omega arith
-
-pub kept-up : (F : PrenexFormula) (c : CertificateView) (top n : ℕ) (kept : Matrix) → IsFormula F → kept ≡ needed top c F.matrix → greatest F.prefix < n →
-    (D : Clause) → IsIn D kept → AreUpTo n D
-kept-up F c top n kept f e l D m =
-    up-bound n F.prefix D (λ k i. f.closed D (needed-IsIn top c F.matrix D (subst (λ (X : Matrix). IsIn D X) e m)) k i) l
-
-pub top-above : (F : PrenexFormula) (c : CertificateView) (top n : ℕ) → top ≡ top_of F c → n ≡ top + 1 → greatest F.prefix < n
-top-above F c top n e f = omega arith

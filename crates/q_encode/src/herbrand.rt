@@ -1,6 +1,6 @@
 //! The miter of circuits of the universals: each clause of the formula, by its circuits.
-ghost use Rattle.std.specs.Prelude.{◌≡◌, ◌≤◌, ◌<◌, ◌+◌, ◌^◌, ◌++◌, ℕ, length, IfOk, OnOk};
-ghost use Rattle.q_logic.specs.Prelude.{CertificateView, greatest};
+ghost use Rattle.std.specs.Prelude.{◌≡◌, ◌<◌, ◌+◌, ◌^◌, ◌++◌, ℕ, length, IfOk, OnOk};
+ghost use Rattle.q_logic.specs.Prelude.{CertificateView};
 ghost use Rattle.q_miter.specs.Miters.{herbrand_miter, in_order, top_of, translated_matrix};
 ghost use Rattle.q_encode.specs.Translations.{AreNames, IsTranslation};
 
@@ -9,21 +9,21 @@ use crate::rows::Rows;
 use crate::translating::{translate, translation};
 use q_aig::Certificate;
 use q_logic::{Clauses, Formula, Lit, NoMemory};
+use q_pages::ByNumber;
 use std::alloc::Global;
 
 // Puts what stands for each clause; `made` is lent for its memory.
 fn put_clauses(
     rows: &mut Rows,
-    row: &[Lit],
+    circuit_lits: &ByNumber<Option<Lit>>,
     formula: &Formula,
     made: &mut Vec<Lit>,
 ) -> Result<(), NoMemory>
-    requires { greatest formula.now.prefix < length row.now }
-    ensures { OnOk result ((top : ℕ) → (c : CertificateView) → IsTranslation top c row.now →
+    ensures { OnOk result ((top : ℕ) → (c : CertificateView) → IsTranslation top c circuit_lits.now →
         rows.new ≡ rows.old ++ in_order (translated_matrix top c formula.now.matrix)) }
 {
     for at in 0..formula.clauses() {
-        translate(row, formula.clause(at), made)?;
+        translate(circuit_lits, formula.clause(at), made)?;
         rows.put(made)?;
     }
     Ok(())
@@ -41,10 +41,10 @@ pub fn herbrand_clauses(
     requires room { top + length circuits.now.gates + 2 < 2 ^ 31 }
     ensures { IfOk result (λ made. made ≡ herbrand_miter formula.now circuits.now) }
 {
-    let row = translation(alloc, circuits, top)?;
+    let circuit_lits = translation(alloc, circuits, top)?;
     let mut rows = Rows::new(alloc);
     put_definitions(&mut rows, circuits.aig(), top)?;
     let mut made = Vec::new(alloc);
-    put_clauses(&mut rows, &row, formula, &mut made)?;
+    put_clauses(&mut rows, &circuit_lits, formula, &mut made)?;
     Ok(rows.finish())
 }

@@ -1,9 +1,9 @@
 //! The miter of circuits of the existentials: some selector is true, and the selector of a clause says that each of its
 //! literals is false. Clauses that are true at once have no selector.
-ghost use Rattle.std.specs.Prelude.{◌≡◌, ◌≤◌, ◌<◌, ◌+◌, ◌^◌, ◌++◌, ℕ, length, IfOk, OnOk};
-ghost use Rattle.q_logic.specs.Prelude.{CertificateView, Literal, IsIn, Clause, greatest, clause_of};
+ghost use Rattle.std.specs.Prelude.{◌≡◌, ◌<◌, ◌+◌, ◌^◌, ◌++◌, ℕ, length, IfOk, OnOk};
+ghost use Rattle.q_logic.specs.Prelude.{CertificateView};
 ghost use Rattle.q_miter.specs.Miters.{denials, in_order, lean_miter, selections, selectors, top_of};
-ghost use Rattle.q_encode.specs.Translations.{AreNames, AreUpTo, IsTranslation};
+ghost use Rattle.q_encode.specs.Translations.{AreNames, IsTranslation};
 ghost use Rattle.q_encode.specs.Selected.{selector_row};
 
 use crate::gates::put_definitions;
@@ -13,6 +13,7 @@ use crate::rows::Rows;
 use crate::translating::{translated_lit, translation};
 use q_aig::Certificate;
 use q_logic::{Clauses, Formula, Lit, NoMemory};
+use q_pages::ByNumber;
 use std::alloc::Global;
 
 // The selectors of so many clauses.
@@ -28,13 +29,17 @@ fn selectors(alloc: Global, top: u32, gates: usize, clauses: usize) -> Result<Ve
 }
 
 // The selector of a clause says that each of its literals is false.
-fn put_denials(rows: &mut Rows, row: &[Lit], lit: Lit, clause: &[Lit]) -> Result<(), NoMemory>
-    requires { AreUpTo (length row.now) clause.now }
-    ensures { OnOk result ((top : ℕ) → (c : CertificateView) → IsTranslation top c row.now →
+fn put_denials(
+    rows: &mut Rows,
+    circuit_lits: &ByNumber<Option<Lit>>,
+    lit: Lit,
+    clause: &[Lit],
+) -> Result<(), NoMemory>
+    ensures { OnOk result ((top : ℕ) → (c : CertificateView) → IsTranslation top c circuit_lits.now →
         rows.new ≡ rows.old ++ in_order (denials top c lit clause.now)) }
 {
     for k in clause {
-        rows.put(&[lit.negated(), translated_lit(row, *k).negated()])?;
+        rows.put(&[lit.negated(), translated_lit(circuit_lits, *k).negated()])?;
     }
     Ok(())
 }
@@ -42,20 +47,24 @@ fn put_denials(rows: &mut Rows, row: &[Lit], lit: Lit, clause: &[Lit]) -> Result
 // The same for each of the clauses.
 fn put_selections(
     rows: &mut Rows,
-    row: &[Lit],
+    circuit_lits: &ByNumber<Option<Lit>>,
     circuits: &Certificate,
     top: u32,
     clauses: &Clauses,
 ) -> Result<(), NoMemory>
     requires room { top + length circuits.now.gates + length clauses.now + 1 < 2 ^ 31 }
-    requires row { IsTranslation top circuits.now row.now }
-    requires clauses { (D : Clause) → IsIn D clauses.now → AreUpTo (length row.now) D }
+    requires lits { IsTranslation top circuits.now circuit_lits.now }
     ensures { OnOk result (rows.new ≡ rows.old
         ++ in_order (selections top circuits.now 0 clauses.now)) }
 {
     let gates = circuits.aig().gates();
     for at in 0..clauses.len() {
-        put_denials(rows, row, selector_lit(top, gates, at), clauses.clause(at))?;
+        put_denials(
+            rows,
+            circuit_lits,
+            selector_lit(top, gates, at),
+            clauses.clause(at),
+        )?;
     }
     Ok(())
 }
@@ -73,12 +82,12 @@ pub fn skolem_clauses(
     ensures { IfOk result (λ made. made ≡ lean_miter formula.now circuits.now) }
 {
     let _ = formula.prefix();
-    let row = translation(alloc, circuits, top)?;
-    let kept = needed(alloc, formula, circuits, top, &row)?;
+    let circuit_lits = translation(alloc, circuits, top)?;
+    let kept = needed(alloc, formula, circuits, top, &circuit_lits)?;
     let mut rows = Rows::new(alloc);
     put_definitions(&mut rows, circuits.aig(), top)?;
     let chosen = selectors(alloc, top, circuits.aig().gates(), kept.len())?;
     rows.put(&chosen)?;
-    put_selections(&mut rows, &row, circuits, top, &kept)?;
+    put_selections(&mut rows, &circuit_lits, circuits, top, &kept)?;
     Ok(rows.finish())
 }

@@ -1,6 +1,7 @@
 //! The components of the implications between literals: the literals of one component are joined each to the other. They
 //! are found by Tarjan's search (SIAM Journal on Computing 1972), without recursion. Nothing is proved of them here: the
 //! levels that they give are verified in one pass (`levels.rt`).
+use crate::level_row::Levels;
 use crate::numbers::Numbers;
 use q_logic::{Lit, NoMemory};
 use std::alloc::Global;
@@ -82,9 +83,8 @@ impl Components {
         Ok(())
     }
 
-    /// Gives each literal the number of its component: no implication leads to a greater number. A literal behind the row's end
-    /// has none.
-    pub(crate) fn number(&mut self, levels: &mut Vec<u32>) -> Result<(), NoMemory> {
+    /// Finds the components.
+    pub(crate) fn find(&mut self) -> Result<(), NoMemory> {
         let count = self.numbers.count().saturating_add(1);
         self.order.clear();
         self.order.resize(count, 0)?;
@@ -95,7 +95,7 @@ impl Components {
         for page in 0..self.numbers.pages() {
             self.search_page(page)?;
         }
-        self.tell(levels)
+        Ok(())
     }
 
     // Searches from the literals of a page, in their order.
@@ -109,16 +109,12 @@ impl Components {
         Ok(())
     }
 
-    // Puts the components into a row by literals.
-    fn tell(&self, levels: &mut Vec<u32>) -> Result<(), NoMemory> {
-        levels.clear();
-        levels.push(0)?;
+    /// Gives each literal the number of its component in a row with no levels: no implication leads to a greater number. A literal
+    /// that is in no component has 0.
+    pub(crate) fn tell(&self, levels: &mut Levels) -> Result<(), NoMemory> {
+        levels.grow(self.numbers.end().max(1))?;
         for number in 1..self.closed_in.len() {
-            let place = self.numbers.place(number);
-            if levels.len() <= place {
-                levels.resize(place.saturating_add(1), 0)?;
-            }
-            put_mark(levels, place, mark(&self.closed_in, number));
+            levels.put(self.numbers.place(number), mark(&self.closed_in, number));
         }
         Ok(())
     }

@@ -18,6 +18,7 @@ ghost use Rattle.q_equiv.specs.Searches.{IsKept};
 
 use crate::components::Components;
 use crate::joined::gather;
+use crate::level_row::Levels;
 use crate::levels::make_levels;
 use crate::merge::can_stand_for;
 use crate::target::Target;
@@ -31,7 +32,7 @@ use std::alloc::Global;
 pub struct Walks {
     there: Queue,
     back: Queue,
-    pub(crate) levels: Vec<u32>,
+    pub(crate) levels: Levels,
     pub(crate) components: Components,
     // how many clauses were looked at without levels
     looks: usize,
@@ -42,7 +43,7 @@ impl Walks {
         Walks {
             there: Queue::new(alloc),
             back: Queue::new(alloc),
-            levels: Vec::new(alloc),
+            levels: Levels::new(alloc),
             components: Components::new(alloc),
             looks: 0,
         }
@@ -54,7 +55,7 @@ pub fn find_from(kernel: &Kernel, walks: &mut Walks, from: u32) -> Result<Option
     requires { IsInLimits standard (formula_in kernel.now) }
     ensures { IfOk result (IsFound target_of kernel.now (λ t. from ≤ place (target_of t))) }
 {
-    walks.levels.clear();
+    walks.levels = Levels::new(kernel.allocator());
     walks.looks = 0;
     for var in from..kernel.greatest_var() + 1 {
         let found = find_at(kernel, walks, var)?;
@@ -67,9 +68,9 @@ pub fn find_from(kernel: &Kernel, walks: &mut Walks, from: u32) -> Result<Option
 
 // A target at a variable. The other literal of the variable needs no look: what keeps its negation keeps it.
 fn find_at(kernel: &Kernel, walks: &mut Walks, var: u32) -> Result<Option<Target>, NoMemory>
-    requires { NeverRise walks.old.levels.items (live (slots kernel.now)) }
+    requires { NeverRise walks.old.levels (live (slots kernel.now)) }
     ensures found { IfOk result (IsFound target_of kernel.now (λ t. place (target_of t) ≡ var)) }
-    ensures falling { OnOk result (NeverRise walks.new.levels.items (live (slots kernel.now))) }
+    ensures falling { OnOk result (NeverRise walks.new.levels (live (slots kernel.now))) }
 {
     if !is_existential(kernel, var) {
         return Ok(None);
@@ -84,9 +85,9 @@ fn find_at(kernel: &Kernel, walks: &mut Walks, var: u32) -> Result<Option<Target
 
 // A literal that may take the place of one.
 fn find_keep(kernel: &Kernel, walks: &mut Walks, gone: Lit) -> Result<Option<Lit>, NoMemory>
-    requires { NeverRise walks.old.levels.items (live (slots kernel.now)) }
+    requires { NeverRise walks.old.levels (live (slots kernel.now)) }
     ensures kept { IfOk result (IsKept kernel.now gone) }
-    ensures falling { OnOk result (NeverRise walks.new.levels.items (live (slots kernel.now))) }
+    ensures falling { OnOk result (NeverRise walks.new.levels (live (slots kernel.now))) }
 {
     level_off(kernel, walks)?;
     let there = gather(kernel, &mut walks.there, &walks.levels, gone)?;
@@ -114,8 +115,8 @@ fn pick(kernel: &Kernel, there: &Queue, back: &Queue, gone: Lit) -> Option<Lit>
 
 // Makes levels once walks without them have looked at more than the formula holds.
 fn level_off(kernel: &Kernel, walks: &mut Walks) -> Result<(), NoMemory>
-    requires { NeverRise walks.old.levels.items (live (slots kernel.now)) }
-    ensures { OnOk result (NeverRise walks.new.levels.items (live (slots kernel.now))) }
+    requires { NeverRise walks.old.levels (live (slots kernel.now)) }
+    ensures { OnOk result (NeverRise walks.new.levels (live (slots kernel.now))) }
 {
     if walks.levels.is_empty() && walks.looks > kernel.size() {
         walks.looks = 0;

@@ -11,8 +11,9 @@
 ghost use Rattle.std.specs.Prelude.{◌≡◌, ◌↔◌, ◌∷◌, [], Some, OnOk, IfOk, IsTrue};
 ghost use Rattle.q_logic.specs.Prelude.{Literal, IsBelow, negation, Clause, IsIn, ArePairs, slot, live, Binary, Joined};
 ghost use Rattle.q_kernel.specs.Prelude.{slots, HoldsLiteral};
-ghost use Rattle.q_equiv.specs.Walks.{level_of, IsSpread, IsGathered};
+ghost use Rattle.q_equiv.specs.Walks.{IsSpread, IsGathered};
 
+use crate::level_row::Levels;
 use q_kernel::{ClauseId, Kernel};
 use q_logic::{Lit, NoMemory};
 use q_rule::{Queue, clause_of};
@@ -31,17 +32,18 @@ pub fn is_joined(kernel: &Kernel, queue: &mut Queue, from: Lit, to: Lit) -> Resu
         if head >= queue.len() {
             return Ok(false);
         }
-        spread(kernel, queue, &[], queue.at(head))?;
+        spread_all(kernel, queue, queue.at(head))?;
     }
     // a queue that long has no place in memory
     Err(NoMemory)
 }
 
 /// Gathers the literals to which clauses of two literals lead from a literal on its level; how many clauses were looked at.
+#[inline]
 pub fn gather(
     kernel: &Kernel,
     queue: &mut Queue,
-    levels: &[u32],
+    levels: &Levels,
     from: Lit,
 ) -> Result<usize, NoMemory>
     ensures { OnOk result (IsGathered levels.now (live (slots kernel.now)) from queue.new) }
@@ -61,8 +63,32 @@ pub fn gather(
     Err(NoMemory)
 }
 
+// Puts all literals into the queue to which a clause of two literals leads from the literal.
+fn spread_all(kernel: &Kernel, queue: &mut Queue, lit: Lit) -> Result<(), NoMemory>
+    ensures { OnOk result (IsSpread [] (live (slots kernel.now)) lit queue.old queue.new) }
+{
+    for id in kernel.holders(lit.negated()) {
+        go_on(kernel, queue, id, lit)?;
+    }
+    Ok(())
+}
+
+// Puts the literal into the queue to which one clause leads from the literal, if there is one.
+fn go_on(kernel: &Kernel, queue: &mut Queue, id: ClauseId, lit: Lit) -> Result<(), NoMemory>
+    requires { HoldsLiteral kernel.now id (negation lit) }
+    ensures { OnOk result ((D : Clause) → slot (slots kernel.now) id ≡ Some D
+        → IsSpread [] (D ∷ []) lit queue.old queue.new) }
+{
+    if let Some(next) = partner(clause_of(kernel, id), lit) {
+        if !queue.has(next) {
+            queue.push(next)?;
+        }
+    }
+    Ok(())
+}
+
 // Puts all literals of its level into the queue to which a clause of two literals leads from the literal.
-fn spread(kernel: &Kernel, queue: &mut Queue, levels: &[u32], lit: Lit) -> Result<(), NoMemory>
+fn spread(kernel: &Kernel, queue: &mut Queue, levels: &Levels, lit: Lit) -> Result<(), NoMemory>
     ensures { OnOk result (IsSpread levels.now (live (slots kernel.now)) lit queue.old queue.new) }
 {
     for id in kernel.holders(lit.negated()) {
@@ -75,7 +101,7 @@ fn spread(kernel: &Kernel, queue: &mut Queue, levels: &[u32], lit: Lit) -> Resul
 fn follow(
     kernel: &Kernel,
     queue: &mut Queue,
-    levels: &[u32],
+    levels: &Levels,
     id: ClauseId,
     lit: Lit,
 ) -> Result<(), NoMemory>
@@ -84,18 +110,11 @@ fn follow(
         → IsSpread levels.now (D ∷ []) lit queue.old queue.new) }
 {
     if let Some(next) = partner(clause_of(kernel, id), lit) {
-        if level(levels, next) == level(levels, lit) && !queue.has(next) {
+        if levels.of(next) == levels.of(lit) && !queue.has(next) {
             queue.push(next)?;
         }
     }
     Ok(())
-}
-
-/// The level of a literal: 0 where the row has none.
-pub fn level(levels: &[u32], lit: Lit) -> u32
-    ensures { result ≡ level_of levels.now lit }
-{
-    levels.get(lit.index()).copied().unwrap_or(0)
 }
 
 /// The literal to which a clause leads from a literal whose negation it holds: the other one of two.

@@ -6,7 +6,7 @@ ghost use Rattle.q_kernel.specs.Prelude.{slots};
 ghost use Rattle.q_equiv.specs.Walks.{NeverRise};
 
 use crate::components::Components;
-use crate::joined::level;
+use crate::level_row::Levels;
 use q_kernel::Kernel;
 use q_logic::{Lit, NoMemory};
 
@@ -14,14 +14,16 @@ use q_logic::{Lit, NoMemory};
 pub fn make_levels(
     kernel: &Kernel,
     components: &mut Components,
-    levels: &mut Vec<u32>,
+    levels: &mut Levels,
 ) -> Result<(), NoMemory>
-    ensures { OnOk result (NeverRise levels.new.items (live (slots kernel.now))) }
+    ensures { OnOk result (NeverRise levels.new (live (slots kernel.now))) }
 {
     note_all(kernel, components)?;
-    components.number(levels)?;
+    components.find()?;
+    *levels = Levels::new(kernel.allocator());
+    components.tell(levels)?;
     if !never_rise(kernel, levels) {
-        levels.clear();
+        *levels = Levels::new(kernel.allocator());
     }
     Ok(())
 }
@@ -39,7 +41,7 @@ pub(crate) fn note_all(kernel: &Kernel, components: &mut Components) -> Result<(
 }
 
 // Whether no clause of two literals leads to a higher level.
-fn never_rise(kernel: &Kernel, levels: &[u32]) -> bool
+fn never_rise(kernel: &Kernel, levels: &Levels) -> bool
     ensures { IsTrue result → NeverRise levels.now (live (slots kernel.now)) }
 {
     for id in kernel.ids() {
@@ -51,7 +53,7 @@ fn never_rise(kernel: &Kernel, levels: &[u32]) -> bool
 }
 
 // Whether a clause of two literals leads to a higher level.
-fn rises(clause: &[Lit], levels: &[u32]) -> bool
+fn rises(clause: &[Lit], levels: &Levels) -> bool
     requires { ArePairs IsBelow clause.now }
     ensures { result ≡ false → NeverRise levels.now (clause.now ∷ []) }
 {
@@ -59,5 +61,5 @@ fn rises(clause: &[Lit], levels: &[u32]) -> bool
         return false;
     }
     let (a, b) = (clause[0], clause[1]);
-    level(levels, a.negated()) < level(levels, b) || level(levels, b.negated()) < level(levels, a)
+    levels.of(a.negated()) < levels.of(b) || levels.of(b.negated()) < levels.of(a)
 }

@@ -5,6 +5,7 @@ mod bridge;
 mod components;
 mod find;
 mod joined;
+mod level_row;
 mod levels;
 mod merge;
 mod numbers;

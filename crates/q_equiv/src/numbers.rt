@@ -34,6 +34,11 @@ impl Numbers {
         self.places.len()
     }
 
+    /// The end of the places of all pages.
+    pub(crate) fn end(&self) -> usize {
+        self.pages.len().saturating_mul(PAGE)
+    }
+
     /// How many pages there are.
     pub(crate) fn pages(&self) -> usize {
         self.pages.len()

@@ -45,7 +45,7 @@ pub fn candidates(
     targets.clear();
     let walks = &mut search.walks;
     note_all(kernel, &mut walks.components)?;
-    walks.components.number(&mut walks.levels)?;
+    walks.components.find()?;
     for number in 0..walks.components.count() {
         let part = walks.components.part(number);
         pair_up(kernel, part, &mut search.halves, targets)?;

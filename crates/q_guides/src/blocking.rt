@@ -4,14 +4,17 @@
 //! stands in one clause less, and the clauses of one of them are tested one by one.
 ghost use Rattle.q_kernel.specs.Prelude.{IsReady};
 
-use crate::lists::gather;
+use crate::lists::{gather, lits_of};
 use crate::lits::Lits;
 use crate::watch::{Pass, Watch};
 use q_blocked::{Search, Target};
 use q_kernel::{ClauseId, Kernel};
-use q_logic::{Bounds, Lit, NoMemory};
+use q_logic::{Bounds, Lit, NoMemory, holds};
 use q_rule::{Rules, is_existential};
 use std::alloc::Global;
+
+// A clause of so many literals is short.
+const SHORT: usize = 8;
 
 #[derive(Drop)]
 pub(crate) struct Blocking {
@@ -94,6 +97,9 @@ impl Blocking {
             let Some(c) = self.ids.pop() else {
                 return Ok(None);
             };
+            if is_open(kernel, c, lit) {
+                continue;
+            }
             let target = target_on(kernel, c, lit);
             if self.search.applies(kernel, &target, bounds)? {
                 return Ok(Some(target));
@@ -101,6 +107,30 @@ impl Blocking {
         }
         Ok(None)
     }
+}
+
+// Whether it is seen at a glance that a clause is not blocked on its literal: another clause with the negation has nothing else that
+// is opposed in it. The first such clause alone is asked, and only where both are short.
+fn is_open(kernel: &Kernel, c: ClauseId, l: Lit) -> bool {
+    for d in kernel.holders(l.negated()) {
+        if d != c {
+            return is_beside(lits_of(kernel, c), lits_of(kernel, d), l);
+        }
+    }
+    false
+}
+
+// Whether two short clauses have no literal opposed but the one and its negation.
+fn is_beside(clause: &[Lit], other: &[Lit], l: Lit) -> bool {
+    if clause.len() > SHORT || other.len() > SHORT {
+        return false;
+    }
+    for k in other {
+        if !k.is(l.negated()) && holds(clause, k.negated()) {
+            return false;
+        }
+    }
+    true
 }
 
 fn target_on(kernel: &Kernel, c: ClauseId, l: Lit) -> Target {

@@ -7,13 +7,15 @@
 //!
 //! The clauses of a literal are a list, linked by their ids. Nothing here has to agree with the kernel.
 
+use crate::grown::take_in;
 use crate::lists::{index_of, lits_of};
 use q_kernel::{ClauseId, Kernel};
 use q_logic::{Lit, NoMemory};
+use q_sparse::Sparse;
 use std::alloc::Global;
 
 /// No clause has this id.
-const NONE: ClauseId = u32::MAX;
+pub(crate) const NONE: ClauseId = u32::MAX;
 
 /// Where a clause hangs.
 #[derive(Clone, Copy)]
@@ -36,7 +38,7 @@ impl Entry {
 #[derive(Drop)]
 pub(crate) struct ClauseIndex {
     entries: Vec<Entry>,
-    first: Vec<ClauseId>,
+    first: Sparse<ClauseId>,
 }
 
 const NOWHERE: Entry = Entry {
@@ -52,7 +54,7 @@ impl ClauseIndex {
     pub(crate) fn new(alloc: Global) -> ClauseIndex {
         ClauseIndex {
             entries: Vec::new(alloc),
-            first: Vec::new(alloc),
+            first: Sparse::new(alloc, NONE),
         }
     }
 
@@ -87,10 +89,7 @@ impl ClauseIndex {
         if c as usize >= self.entries.len() {
             self.entries.resize(c as usize + 1, NOWHERE)?;
         }
-        if home as usize >= self.first.len() {
-            self.first.resize(home as usize + 1, NONE)?;
-        }
-        Ok(())
+        take_in(&mut self.first, home)
     }
 
     /// Takes a clause from its list.
@@ -118,7 +117,7 @@ impl ClauseIndex {
 
     /// The first clause that hangs at a literal.
     pub(crate) fn first(&self, home: u32) -> ClauseId {
-        self.first.get(home as usize).copied().unwrap_or(NONE)
+        self.first.get(home as usize)
     }
 
     /// Where a clause hangs.
@@ -139,10 +138,10 @@ fn put_entry(entries: &mut [Entry], c: ClauseId, entry: Entry) {
     }
 }
 
-fn put_first(first: &mut [ClauseId], home: u32, c: ClauseId) {
+fn put_first(first: &mut Sparse<ClauseId>, home: u32, c: ClauseId) {
     let place = home as usize;
     if place < first.len() {
-        first[place] = c;
+        first.set(place, c);
     }
 }
 

@@ -10,6 +10,7 @@ mod cutting;
 mod eliminating;
 mod expanding;
 mod fields;
+mod grown;
 mod impatient;
 mod listed;
 mod lists;

@@ -35,6 +35,7 @@ pub(crate) fn places_of(kernel: &Kernel, lit: Lit) -> u32 {
 }
 
 /// Puts the ids of the clauses that hold a literal into a row, behind what is there.
+#[inline]
 pub(crate) fn gather(kernel: &Kernel, lit: Lit, ids: &mut Vec<ClauseId>) -> Result<(), NoMemory> {
     for id in kernel.holders(lit) {
         ids.push(id)?;

@@ -40,6 +40,7 @@ impl Lits {
     }
 
     /// Takes a literal out that stands in at most so many clauses; the others are put off.
+    #[inline]
     pub(crate) fn next(&mut self, kernel: &Kernel, limit: u32) -> Result<Option<Lit>, NoMemory> {
         for _ in 0..self.queue.len() {
             let Some(index) = self.queue.take() else {

@@ -8,9 +8,11 @@
 //!
 //! Nothing has to be right here: by a wrong number a clause is looked at once more, or left to that search.
 
+use crate::grown::take_in;
 use crate::lists::{index_of, lits_of};
 use q_kernel::{ClauseId, Kernel};
 use q_logic::NoMemory;
+use q_sparse::{Filling, Sparse};
 use std::alloc::Global;
 
 #[derive(Drop)]
@@ -18,8 +20,8 @@ pub(crate) struct Looks {
     // how often looks began
     now: u32,
     // what `now` was, by index of the literal and by id of the clause; 0 for those that never were
-    touched: Vec<u32>,
-    looked: Vec<u32>,
+    touched: Sparse<u32>,
+    looked: Sparse<u32>,
 }
 
 impl Looks {
@@ -27,8 +29,8 @@ impl Looks {
     pub(crate) fn new(alloc: Global) -> Looks {
         Looks {
             now: 0,
-            touched: Vec::new(alloc),
-            looked: Vec::new(alloc),
+            touched: Sparse::new(alloc, 0),
+            looked: Sparse::filled(alloc, 0, Filling::Most),
         }
     }
 
@@ -52,9 +54,9 @@ impl Looks {
 
     /// Whether a clause was looked at, and none of its literals was touched since.
     pub(crate) fn is_done_with(&self, kernel: &Kernel, c: ClauseId) -> bool {
-        let looked = stamp_at(&self.looked, c);
+        let looked = self.looked.get(c as usize);
         for l in lits_of(kernel, c) {
-            if stamp_at(&self.touched, index_of(*l)) >= looked {
+            if self.touched.get(index_of(*l) as usize) >= looked {
                 return false;
             }
         }
@@ -62,15 +64,11 @@ impl Looks {
     }
 }
 
-fn stamp_at(stamps: &[u32], number: u32) -> u32 {
-    stamps.get(number as usize).copied().unwrap_or(0)
-}
-
-fn put_stamp(stamps: &mut Vec<u32>, number: u32, stamp: u32) -> Result<(), NoMemory> {
+fn put_stamp(stamps: &mut Sparse<u32>, number: u32, stamp: u32) -> Result<(), NoMemory> {
     let place = number as usize;
     if place >= stamps.len() {
-        stamps.resize(place + 1, 0)?;
+        take_in(stamps, number)?;
     }
-    stamps[place] = stamp;
+    stamps.set(place, stamp);
     Ok(())
 }

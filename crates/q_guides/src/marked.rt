@@ -3,13 +3,15 @@
 //! They are variables, ids of clauses or indices of literals. A mark tells that a number waits, so to put it in again costs
 //! nothing. The one that came last is the first to leave.
 
+use crate::grown::take_in;
 use q_logic::NoMemory;
+use q_sparse::Sparse;
 use std::alloc::Global;
 
 #[derive(Drop)]
 pub(crate) struct Marked {
     waiting: Vec<u32>,
-    marks: Vec<bool>,
+    marks: Sparse<bool>,
 }
 
 impl Marked {
@@ -17,7 +19,7 @@ impl Marked {
     pub(crate) fn new(alloc: Global) -> Marked {
         Marked {
             waiting: Vec::new(alloc),
-            marks: Vec::new(alloc),
+            marks: Sparse::new(alloc, false),
         }
     }
 
@@ -52,7 +54,7 @@ impl Marked {
     pub(crate) fn unmark(&mut self, number: u32) {
         let place = number as usize;
         if place < self.marks.len() {
-            self.marks[place] = false;
+            self.marks.set(place, false);
         }
     }
 
@@ -65,13 +67,10 @@ impl Marked {
     pub(crate) fn mark(&mut self, number: u32) -> Result<bool, NoMemory> {
         let place = number as usize;
         if place >= self.marks.len() {
-            self.marks.resize(place + 1, false)?;
+            take_in(&mut self.marks, number)?;
         }
-        if place >= self.marks.len() {
-            return Err(NoMemory);
-        }
-        let was = self.marks[place];
-        self.marks[place] = true;
+        let was = self.marks.get(place);
+        self.marks.set(place, true);
         Ok(was)
     }
 }

@@ -126,6 +126,7 @@ fn is_innermost(kernel: &Kernel, clause: &[Lit], l: Lit) -> bool {
 }
 
 /// Whether an existential literal of a clause is inner to a literal of the prefix.
+#[inline]
 pub(crate) fn has_inner(kernel: &Kernel, clause: &[Lit], l: Lit) -> bool {
     if !kernel.prefix().contains(l.var()) {
         return false;

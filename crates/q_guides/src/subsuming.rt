@@ -5,7 +5,7 @@
 
 ghost use Rattle.q_kernel.specs.Prelude.{IsReady};
 
-use crate::clause_index::{ClauseIndex, Entry, signature_of};
+use crate::clause_index::{ClauseIndex, Entry, NONE, signature_of};
 use crate::lists::{gather, index_of, lit_at, lits_of, places_of};
 use crate::marked::Marked;
 use crate::watch::{Pass, Watch};
@@ -211,8 +211,11 @@ impl Subsuming {
     // of those that hang there are gone: these are taken out, so that none is met twice.
     fn scan(&mut self, kernel: &Kernel, d: ClauseId, shape: &Entry, home: u32) -> Option<Target> {
         let mut best = None;
-        let live = places_at(kernel, home);
         let mut c = self.index.first(home);
+        if c == NONE {
+            return best;
+        }
+        let live = places_at(kernel, home);
         for met in 0..self.index.len() {
             let entry = self.index.entry(c);
             if home == 0 || entry.home != home {
@@ -329,6 +332,7 @@ fn hold(set: &Queue, len: usize, clause: &[Lit]) -> Lying {
 }
 
 // Makes the set that of a clause's literals.
+#[inline]
 fn fill(set: &mut Queue, clause: &[Lit]) -> Result<(), NoMemory> {
     set.clear();
     for l in clause {

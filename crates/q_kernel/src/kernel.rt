@@ -27,6 +27,7 @@ use q_arena::{Arena, ClauseId};
 use q_logic::{Bound, Bounds, Clauses, Formula, Kind, Lit, NoMemory};
 use q_occ::Occ;
 use q_prefix::{Prefix, greatest_of};
+use q_sparse::filling_of;
 use std::alloc::Global;
 use std::marker::Model;
 
@@ -116,7 +117,7 @@ impl Kernel {
         let greatest = greatest_of(bounds);
         let mut prefix = Prefix::new(alloc, bounds)?;
         prefix.reserve(0, greatest)?;
-        let occ = Occ::new(alloc, greatest)?;
+        let occ = Occ::new(alloc, greatest, filling_of(bounds.len(), greatest as usize))?;
         let uses = idle_uses(alloc, bounds, greatest)?;
         Ok(Kernel {
             prefix,

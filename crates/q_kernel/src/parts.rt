@@ -10,6 +10,7 @@ use crate::uses::Uses;
 use q_arena::Arena;
 use q_logic::{Bound, Formula, Lit, NoMemory};
 use q_prefix::Prefix;
+use q_sparse::filling_of;
 use std::alloc::Global;
 
 /// The bounds of a prefix in their order.
@@ -55,7 +56,7 @@ pub(crate) fn idle_uses(alloc: Global, bounds: &[Bound], most: u32) -> Result<Us
     ensures uses { IfOk result (λ u. AreUses u bounds.now (λ v. false)) }
     ensures room { IfOk result (λ u. most < u.room) }
 {
-    let mut uses = Uses::new(alloc)?;
+    let mut uses = Uses::new(alloc, filling_of(bounds.len(), most as usize))?;
     uses.reserve(most)?;
     for bound in bounds {
         uses.insert(bound.var);

@@ -6,6 +6,7 @@ ghost use Rattle.q_kernel.specs.Uses.{group_of, head_of, IsGrouped, IsStarted, I
 
 use q_arena::Rings;
 use q_logic::{NoMemory, Quant};
+use q_sparse::Filling;
 use std::alloc::Global;
 use std::marker::Model;
 
@@ -44,12 +45,12 @@ fn head_of(quant: Quant) -> u32
 }
 
 impl Uses {
-    pub(crate) fn new(alloc: Global) -> Result<Uses, NoMemory>
+    pub(crate) fn new(alloc: Global, filling: Filling) -> Result<Uses, NoMemory>
         ensures idle { IfOk result (λ u. u.idle ≡ []) }
         ensures existentials { IfOk result (λ u. u.existentials ≡ []) }
         ensures universals { IfOk result (λ u. u.universals ≡ []) }
     {
-        let mut rings = Rings::new(alloc);
+        let mut rings = Rings::new(alloc, filling, Filling::Most);
         rings.reserve(0, 3)?;
         Ok(Uses { rings })
     }

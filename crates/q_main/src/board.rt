@@ -55,8 +55,8 @@ pub(crate) struct Board {
 // A longer name would not leave a line its place.
 const LONGEST_NAME: usize = 40;
 
-// The clock is looked at after so many looks.
-const LOOKS: u32 = 64;
+// The clock is looked at after so many looks that it is told of.
+const LOOKS: u32 = 4;
 
 // What a pass does.
 fn word_of(pass: Option<Pass>) -> &'static str {

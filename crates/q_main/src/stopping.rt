@@ -4,17 +4,12 @@ use crate::bell::Bell;
 use crate::deadline::Deadline;
 use std::cell::Cell;
 
-// The clock is looked at after so many looks of a guide.
-const LOOKS: u32 = 16;
-
 /// What says so, shared by the alarm and by what a guide tells of its looks. Once it is time, it stays so.
 #[derive(Drop)]
 pub(crate) struct Stopping {
     deadline: Deadline,
     bell: Bell,
     is_time: Cell<bool>,
-    // how many looks come before the next one at the clock
-    rest: Cell<u32>,
 }
 
 impl Stopping {
@@ -23,7 +18,6 @@ impl Stopping {
             deadline: Deadline::new(rt),
             bell: Bell::new(rt),
             is_time: Cell::new(false),
-            rest: Cell::new(0),
         }
     }
 
@@ -38,17 +32,6 @@ impl Stopping {
             self.look();
         }
         self.is_time.get()
-    }
-
-    /// The same, but not each call looks at the clock.
-    pub(crate) fn is_time_soon(&self) -> bool {
-        let rest = self.rest.get();
-        if rest > 0 {
-            self.rest.set(rest - 1);
-            return self.is_time.get();
-        }
-        self.rest.set(LOOKS);
-        self.is_time()
     }
 
     fn look(&self) {

@@ -7,6 +7,7 @@ ghost use Rattle.q_occ.specs.Places.{places_of, AreExact, with_linked, IsLinked,
 use crate::linking::{link_all, unlink_all};
 use q_arena::{Arena, ClauseId, Rings};
 use q_logic::{Lit, NoMemory};
+use q_sparse::Filling;
 use std::alloc::Global;
 use std::marker::Model;
 
@@ -25,11 +26,12 @@ impl Model for Occ {
 }
 
 impl Occ {
-    pub fn new(alloc: Global, vars: u32) -> Result<Occ, NoMemory>
+    /// Lists for variables up to `vars`, of which most are literals' or few.
+    pub fn new(alloc: Global, vars: u32, filling: Filling) -> Result<Occ, NoMemory>
         ensures empty { IfOk result (λ o. (h p : ℕ) → Has (list_at o h) p → ⊥) }
         ensures vars { IfOk result (λ o. 2 * vars + 2 ≤ length o.lists) }
     {
-        let mut rings = Rings::new(alloc);
+        let mut rings = Rings::new(alloc, Filling::Most, filling);
         rings.reserve(0, 2 * vars as usize + 2)?;
         Ok(Occ { rings })
     }

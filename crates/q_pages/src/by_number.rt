@@ -1,6 +1,6 @@
 // A value for each number, in memory where one was put. A formula of two clauses may name the variable 16,777,215; a row in its size
 // would take hundreds of megabytes. Smaller numbers have theirs in a plain row, so that a look there costs one comparison.
-ghost use Rattle.std.specs.Prelude.{◌≡◌, ◌≢◌, ◌≤◌, ℕ, [], length, OnOk, OnErr};
+ghost use Rattle.std.specs.Prelude.{◌≡◌, ◌≢◌, ◌<◌, ◌≤◌, ℕ, [], length, OnOk, OnErr};
 ghost use Rattle.q_pages.specs.ByNumber.{value_at, IsPut, AreSameValues};
 
 use crate::pages::Pages;
@@ -51,17 +51,8 @@ impl<T: Copy> ByNumber<T> {
         ensures { result ≡ value_at self.now at }
     {
         if at < self.near.len() {
-            return self.near[at];
-        }
-        self.get_far(at)
-    }
-
-    // The value at a number that is not in the plain row.
-    fn get_far(&self, at: usize) -> T
-        requires { length self.now.near ≤ at }
-        ensures { result ≡ value_at self.now at }
-    {
-        if at < NEAR {
+            self.near[at]
+        } else if at < NEAR {
             self.none
         } else {
             self.far.get(at)
@@ -83,12 +74,12 @@ impl<T: Copy> ByNumber<T> {
 
     // The same for a number that is not in the plain row.
     fn put_far(&mut self, at: usize, value: T) -> Result<(), NoMemory>
-        requires { length self.old.near ≤ at }
+        requires beyond { length self.old.near ≤ at }
         ensures ok { OnOk result (IsPut self.old self.new at value) }
         ensures err { OnErr result (AreSameValues self.old self.new) }
     {
         if at < NEAR {
-            self.near.resize(at + 1, self.none)?;
+            self.reach(at)?;
             self.near[at] = value;
         } else {
             self.far.grow(at.saturating_add(1))?;
@@ -98,6 +89,18 @@ impl<T: Copy> ByNumber<T> {
             self.far.make(at)?;
             self.far.set(at, value);
         }
+        Ok(())
+    }
+
+    // Takes a number into the plain row, whose length doubles at least, so that numbers that come in order take little time.
+    fn reach(&mut self, at: usize) -> Result<(), NoMemory>
+        requires near { at < 1048576 }
+        requires beyond { length self.old.near ≤ at }
+        ensures at { OnOk result (at < length self.new.near) }
+        ensures same { AreSameValues self.old self.new }
+    {
+        let end = (at + 1).max(self.near.len() * 2).min(NEAR);
+        self.near.resize(end, self.none)?;
         Ok(())
     }
 

@@ -127,8 +127,8 @@ fn fill<T: Copy>(items: &mut Vec<T>, none: T, end: usize) -> Result<(), NoMemory
     ensures same { (i : ℕ) → slice_index_or items.new.items i none
         ≡ slice_index_or items.old.items i none }
 {
-    while items.len() < end {
-        items.push(none)?;
+    if items.len() < end {
+        items.resize(end, none)?;
     }
     Ok(())
 }

@@ -7,12 +7,12 @@ ghost use Rattle.q_arena.specs.Prelude.{Has, list_at, following};
 ghost use Rattle.q_prefix.specs.Order.{IsPrefix, IsRanked, IsRankBefore, IsParted, bounds_of, mark_at, rank_of};
 ghost use Rattle.q_prefix.specs.Blocks.{ahead, block_from, mate_of};
 
-use crate::marks::{Mark, mark_of, same, set_rank};
+use crate::marks::{Mark, Marks, mark_of, same, set_mark, set_rank};
 use q_arena::Rings;
 use q_logic::Bound;
 
 /// Puts a bound before the others.
-pub fn push(order: &mut Rings, marks: &mut Vec<Mark>, bound: Bound, rank: u32)
+pub fn push(order: &mut Rings, marks: &mut Marks, bound: Bound, rank: u32)
     requires prefix { IsPrefix order.old marks.old.items }
     requires absent { Has (list_at order.old 0) bound.var → ⊥ }
     requires reserved { bound.var < length marks.old.items }
@@ -25,15 +25,19 @@ pub fn push(order: &mut Rings, marks: &mut Vec<Mark>, bound: Bound, rank: u32)
     ensures rank { rank_of marks.new.items bound.var ≡ rank }
 {
     order.push_front(0, bound.var as usize, 0);
-    marks[bound.var as usize] = Mark {
-        quant: bound.quant,
-        bound: true,
-        rank,
-    };
+    set_mark(
+        marks,
+        bound.var as usize,
+        Mark {
+            quant: bound.quant,
+            bound: true,
+            rank,
+        },
+    );
 }
 
 /// Puts all bounds in, the last one first. The rank of a block is the place of its last variable.
-pub fn fill(order: &mut Rings, marks: &mut Vec<Mark>, bounds: &[Bound])
+pub fn fill(order: &mut Rings, marks: &mut Marks, bounds: &[Bound])
     requires prefix { IsPrefix order.old marks.old.items }
     requires empty { list_at order.old 0 ≡ [] }
     requires distinct { Distinct bounds.now }
@@ -73,12 +77,7 @@ fn rank_before(bounds: &[Bound], place: usize, rank: u32) -> u32
 
 /// Where the variables that are now neighbours have one quantifier, their blocks become one: the smaller
 /// block takes the other's rank.
-pub fn join_blocks(
-    order: &Rings,
-    marks: &mut Vec<Mark>,
-    before: Option<usize>,
-    after: Option<usize>,
-)
+pub fn join_blocks(order: &Rings, marks: &mut Marks, before: Option<usize>, after: Option<usize>)
     requires { IsParted order.now marks.old.items before after }
     ensures len { length marks.new.items ≡ length marks.old.items }
     ensures quant { (v : ℕ) → (mark_at marks.new.items v).quant
@@ -108,7 +107,7 @@ pub fn join_blocks(
 
 // Whether the block that ends at x is no larger than the one that begins at y. One walk goes back from x and one
 // on from y, in step, up to the end of the smaller block.
-fn is_smaller(order: &Rings, marks: &Vec<Mark>, x: usize, y: usize) -> bool
+fn is_smaller(order: &Rings, marks: &Marks, x: usize, y: usize) -> bool
     requires before { Has (list_at order.now 0) x }
     requires after { Has (list_at order.now 0) y }
     ensures { result ≡ nat_le (length (block_from (rank_of marks.now.items) x
@@ -131,7 +130,7 @@ fn is_smaller(order: &Rings, marks: &Vec<Mark>, x: usize, y: usize) -> bool
 }
 
 // Gives the variables of a block another rank, from the one at its end on.
-fn rename(order: &Rings, marks: &mut Vec<Mark>, start: usize, forward: bool, to: u32)
+fn rename(order: &Rings, marks: &mut Marks, start: usize, forward: bool, to: u32)
     requires there { Has (list_at order.now 0) start }
     requires within { (v : ℕ) → Has (list_at order.now 0) v → v < length marks.old.items }
     ensures len { length marks.new.items ≡ length marks.old.items }
@@ -154,7 +153,7 @@ fn rename(order: &Rings, marks: &mut Vec<Mark>, start: usize, forward: bool, to:
 }
 
 // The next variable of a block in one direction.
-fn mate(order: &Rings, marks: &Vec<Mark>, var: usize, forward: bool) -> Option<usize>
+fn mate(order: &Rings, marks: &Marks, var: usize, forward: bool) -> Option<usize>
     requires { Has (list_at order.now 0) var }
     ensures { result ≡ mate_of (rank_of marks.now.items) var (ahead forward (list_at order.now 0)) }
 {

@@ -8,9 +8,10 @@ ghost use Rattle.q_arena.specs.Prelude.{Has, list_at};
 ghost use Rattle.q_prefix.specs.Order.{FlatPrefix, quant_of, bound_after, bound_before, with_after, mark_at};
 
 use crate::blocks::{fill, join_blocks};
-use crate::marks::{Mark, grow_marks, mark_of};
+use crate::marks::{Mark, Marks, grow_marks, mark_of, no_marks, set_mark};
 use q_arena::Rings;
 use q_logic::{Bound, NoMemory, Quant};
+use q_sparse::{Filling, filling_of};
 use std::alloc::Global;
 use std::marker::Model;
 
@@ -19,7 +20,7 @@ use std::marker::Model;
 #[derive(Drop)]
 pub struct Prefix {
     order: Rings,
-    marks: Vec<Mark>,
+    marks: Marks,
     spare: usize,
 }
 
@@ -51,9 +52,10 @@ impl Prefix {
             return Err(NoMemory);
         }
         let room = greatest as usize + 1;
-        let mut order = Rings::new(alloc);
+        let filling = filling_of(bounds.len(), greatest as usize);
+        let mut order = Rings::new(alloc, filling, Filling::Most);
         order.reserve(room, 1)?;
-        let mut marks = Vec::new(alloc);
+        let mut marks = no_marks(alloc, filling);
         grow_marks(&mut marks, room)?;
         fill(&mut order, &mut marks, bounds);
         Ok(Prefix {
@@ -180,7 +182,7 @@ impl Prefix {
     {
         let mark = mark_of(&self.marks, w as usize);
         self.order.insert_after(0, w as usize, v as usize, 0);
-        self.marks[v as usize] = mark;
+        set_mark(&mut self.marks, v as usize, mark);
         self.spare -= 1;
     }
 
@@ -224,16 +226,20 @@ pub fn greatest_of(bounds: &[Bound]) -> u32
 }
 
 // A variable is no longer bound.
-fn unbind(marks: &mut Vec<Mark>, var: usize)
+fn unbind(marks: &mut Marks, var: usize)
     requires { var < length marks.old.items }
     ensures len { length marks.new.items ≡ length marks.old.items }
     ensures gone { (mark_at marks.new.items var).bound ≡ false }
     ensures same { (v : ℕ) → v ≢ var → mark_at marks.new.items v ≡ mark_at marks.old.items v }
 {
     let mark = mark_of(marks, var);
-    marks[var] = Mark {
-        quant: mark.quant,
-        bound: false,
-        rank: mark.rank,
-    };
+    set_mark(
+        marks,
+        var,
+        Mark {
+            quant: mark.quant,
+            bound: false,
+            rank: mark.rank,
+        },
+    );
 }

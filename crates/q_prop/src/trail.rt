@@ -15,13 +15,26 @@ use std::marker::Model;
 pub struct Trail {
     lits: Vec<Lit>,
     marks: ByNumber<bool>,
-    spots: ByNumber<u32>,
-    reasons: ByNumber<u32>,
+    notes: ByNumber<Note>,
     conflict: usize,
+}
+
+// What is noted of a literal on the trail.
+#[derive(Clone, Copy)]
+struct Note {
+    // where it was put
+    spot: u32,
+    // the slot that may have forced it
+    reason: u32,
 }
 
 /// No slot: the literal is one to begin with.
 pub const NO_SLOT: usize = 4_294_967_295;
+
+const NO_NOTE: Note = Note {
+    spot: u32::MAX,
+    reason: u32::MAX,
+};
 
 impl Model for Trail {
     ghost use Rattle.std.specs.Prelude.{◌≡◌, List, false};
@@ -42,8 +55,7 @@ impl Trail {
         Trail {
             lits: Vec::new(alloc),
             marks: ByNumber::new(alloc, false),
-            spots: ByNumber::new(alloc, u32::MAX),
-            reasons: ByNumber::new(alloc, u32::MAX),
+            notes: ByNumber::new(alloc, NO_NOTE),
             conflict: NO_SLOT,
         }
     }
@@ -52,7 +64,7 @@ impl Trail {
     /// looked at before it is used: a wrong one costs time alone.
     pub(crate) fn reason(&self, lit: Lit) -> usize {
         if self.has(lit) {
-            self.reasons.get(lit.index()) as usize
+            self.notes.get(lit.index()).reason as usize
         } else {
             NO_SLOT
         }
@@ -62,9 +74,16 @@ impl Trail {
     pub fn change_reason(&mut self, lit: Lit, old: usize, new: usize)
         ensures { self.new ≡ self.old }
     {
-        if self.reasons.get(lit.index()) as usize == old {
+        let note = self.notes.get(lit.index());
+        if note.reason as usize == old {
             // It has a reason, so this takes no memory.
-            let _ = self.reasons.put(lit.index(), short(new));
+            let _ = self.notes.put(
+                lit.index(),
+                Note {
+                    reason: short(new),
+                    ..note
+                },
+            );
         }
     }
 
@@ -113,8 +132,11 @@ impl Trail {
         ensures ok { OnOk result (self.new ≡ self.old ++ lit ∷ []) }
         ensures err { OnErr result (self.new ≡ self.old) }
     {
-        self.spots.put(lit.index(), short(self.lits.len()))?;
-        self.reasons.put(lit.index(), short(slot))?;
+        let note = Note {
+            spot: short(self.lits.len()),
+            reason: short(slot),
+        };
+        self.notes.put(lit.index(), note)?;
         self.lits.reserve(1)?;
         self.marks.put(lit.index(), true)?;
         self.lits.push_reserved(lit);
@@ -142,14 +164,22 @@ impl Trail {
     pub fn remove(&mut self, lit: Lit)
         ensures { IsTaken lit self.old self.new }
     {
-        let Some(place) = place_of(&self.lits, lit, self.spots.get(lit.index()) as usize) else {
+        let Some(place) = place_of(&self.lits, lit, self.notes.get(lit.index()).spot as usize)
+        else {
             return;
         };
         self.lits.swap_remove(place);
         self.marks.clear(lit.index());
         if let Some(moved) = self.lits.get(place) {
             // It has a place, so this takes no memory.
-            let _ = self.spots.put(moved.index(), short(place));
+            let note = self.notes.get(moved.index());
+            let _ = self.notes.put(
+                moved.index(),
+                Note {
+                    spot: short(place),
+                    ..note
+                },
+            );
         }
     }
 }

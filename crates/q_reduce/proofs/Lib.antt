@@ -8,3 +8,4 @@ pub mod ReduceResults
 pub mod RegionSeparation
 pub mod LearnedKept
 pub mod ListItems
+pub mod FirstBound

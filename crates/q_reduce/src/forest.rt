@@ -273,6 +273,7 @@ fn is_edge(kernel: &Kernel, c: ClauseId, lit: Lit, d: ClauseId, u: u32) -> bool
 }
 
 /// Whether a stands before b in the prefix, or in its block.
+#[inline]
 pub(crate) fn is_outer(kernel: &Kernel, a: u32, b: u32) -> bool
     ensures { IsTrue result → outer_or_same kernel.now.prefix a b ≡ true }
 {

@@ -216,8 +216,11 @@ fn innermost(kernel: &Kernel, var: u32) -> u32
     ensures { is_bound kernel.now.prefix result ≡ true }
 {
     let mut inner = var;
-    for other in 1..=kernel.greatest_var() {
-        inner = inner_of(kernel, inner, other);
+    let mut at = kernel.prefix().after(var);
+    for _ in 0..kernel.prefix().len() {
+        let Some(bound) = at else { return inner };
+        inner = inner_of(kernel, inner, bound.var);
+        at = kernel.prefix().after(bound.var);
     }
     inner
 }

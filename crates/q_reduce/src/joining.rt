@@ -1,28 +1,32 @@
 //! Labels for the variables that clauses join. Which labels they are is not promised here: they are verified before they
 //! are used.
-ghost use Rattle.std.specs.Prelude.{◌≡◌, slice_index_or, vec_len};
+ghost use Rattle.std.specs.Prelude.{◌≡◌};
+ghost use Rattle.q_sparse.specs.Rows.{item_at};
 
 use q_kernel::Kernel;
-use q_logic::{Lit, NoMemory};
+use q_logic::Lit;
+use q_sparse::Sparse;
 
 /// The label of a variable, 0 where it has none.
-pub fn label_at(labels: &[u32], var: u32) -> u32
-    ensures { result ≡ slice_index_or labels.now var 0 }
+#[inline(always)]
+pub fn label_at(labels: &Sparse<u32>, var: u32) -> u32
+    ensures { result ≡ item_at labels.now var }
 {
-    labels.get(var as usize).copied().unwrap_or(0)
+    labels.get(var as usize)
 }
 
-fn put_label(labels: &mut Vec<u32>, var: u32, label: u32)
-    ensures { vec_len labels.new ≡ vec_len labels.old }
+/// Gives a variable of the row a label.
+pub fn put_label(labels: &mut Sparse<u32>, var: u32, label: u32)
+    ensures { labels.new.none ≡ labels.old.none }
 {
-    if let Some(at) = labels.get_mut(var as usize) {
-        *at = label;
+    if (var as usize) < labels.len() {
+        labels.set(var as usize, label);
     }
 }
 
 // Where the labels lead to from a variable. The way becomes shorter.
-fn root_of(labels: &mut Vec<u32>, var: u32) -> u32
-    ensures { vec_len labels.new ≡ vec_len labels.old }
+fn root_of(labels: &mut Sparse<u32>, var: u32) -> u32
+    ensures { labels.new.none ≡ labels.old.none }
 {
     let mut at = var;
     for _ in 0..labels.len() {
@@ -38,8 +42,8 @@ fn root_of(labels: &mut Vec<u32>, var: u32) -> u32
 }
 
 // Lets the labels of two variables lead to one place, which is the less of the two.
-fn join(labels: &mut Vec<u32>, a: u32, b: u32)
-    ensures { vec_len labels.new ≡ vec_len labels.old }
+fn join(labels: &mut Sparse<u32>, a: u32, b: u32)
+    ensures { labels.new.none ≡ labels.old.none }
 {
     let x = root_of(labels, a);
     let y = root_of(labels, b);
@@ -47,8 +51,8 @@ fn join(labels: &mut Vec<u32>, a: u32, b: u32)
 }
 
 // Joins the variables of a clause that have labels.
-fn join_clause(labels: &mut Vec<u32>, clause: &[Lit])
-    ensures { vec_len labels.new ≡ vec_len labels.old }
+fn join_clause(labels: &mut Sparse<u32>, clause: &[Lit])
+    ensures { labels.new.none ≡ labels.old.none }
 {
     let mut last = 0;
     for k in clause {
@@ -63,20 +67,20 @@ fn join_clause(labels: &mut Vec<u32>, clause: &[Lit])
 }
 
 /// Joins the variables with labels that stand in one clause.
-pub fn join_all(labels: &mut Vec<u32>, kernel: &Kernel)
-    ensures { vec_len labels.new ≡ vec_len labels.old }
+pub fn join_all(labels: &mut Sparse<u32>, kernel: &Kernel)
+    ensures { labels.new.none ≡ labels.old.none }
 {
     for id in kernel.ids() {
         join_clause(labels, kernel.lits(id));
     }
 }
 
-/// Gives each variable the label to which its own leads. It leads to a less variable, which has its label before.
-pub fn flatten(labels: &mut Vec<u32>)
-    ensures { vec_len labels.new ≡ vec_len labels.old }
+/// Gives each of the variables the label to which its own leads.
+pub fn flatten(labels: &mut Sparse<u32>, vars: &[u32])
+    ensures { labels.new.none ≡ labels.old.none }
 {
-    for at in 0..labels.len() {
-        let label = label_at(labels, labels[at]);
-        labels[at] = label;
+    for var in vars {
+        let root = root_of(labels, *var);
+        put_label(labels, *var, root);
     }
 }

@@ -75,6 +75,7 @@ fn follow(kernel: &Kernel, queue: &mut Queue, d: ClauseId, u: Lit) -> Result<boo
 }
 
 /// Puts the literals of the clause that are existential and inner to u into the queue, each once.
+#[inline]
 pub fn push_inner(
     kernel: &Kernel,
     queue: &mut Queue,

@@ -1,13 +1,15 @@
 //! Regions of variables, which tell that a literal is reducible without a walk.
-ghost use Rattle.std.specs.Prelude.{◌≡◌, ◌↔◌, ◌≤◌, ◌<◌, ℕ, true, length, slice_index_or, Some, None, IsTrue};
+ghost use Rattle.std.specs.Prelude.{◌≡◌, ◌⊎◌, ◌↔◌, ◌≤◌, ◌<◌, ℕ, true, false, length, slice_index_or, Some, None, OnOk, IsTrue};
 ghost use Rattle.q_logic.specs.Prelude.{Literal, negation, Clause, IsIn, is_bound, is_universal, outer_or_same, inner_existential, Reducible, slot, live, others};
+ghost use Rattle.q_sparse.specs.Rows.{item_at};
 ghost use Rattle.q_kernel.specs.Prelude.{slots};
 ghost use Rattle.q_reduce.specs.Regions.{no_regions, region_of, is_covered, key_of, IsRegional, AreRegions};
 
-use crate::joining::{flatten, join_all, label_at};
+use crate::joining::{flatten, join_all, label_at, put_label};
 use q_kernel::{ClauseId, Kernel};
 use q_logic::{Lit, NoMemory};
 use q_rule::{is_inner, is_universal};
+use q_sparse::Sparse;
 use std::alloc::Global;
 use std::marker::Model;
 
@@ -16,15 +18,15 @@ use std::marker::Model;
 #[derive(Drop)]
 pub struct Regions {
     // the region of each variable, 0 for those that are not inner
-    labels: Vec<u32>,
+    labels: Sparse<u32>,
     // the universal variables that the regions are for
-    covered: Vec<bool>,
+    covered: Sparse<bool>,
     // the literals of these, each with the region in which it stands, in ascending order
     keys: Vec<u64>,
 }
 
 impl Model for Regions {
-    ghost use Rattle.std.specs.Prelude.{◌≤◌, ◌<◌, ℕ, length, slice_index_or};
+    ghost use Rattle.std.specs.Prelude.{◌≡◌, ◌≤◌, ◌<◌, ℕ, false, length, slice_index_or};
     ghost use Rattle.q_reduce.specs.Regions.{RegionMap};
 
     ghost Value = { RegionMap };
@@ -35,8 +37,9 @@ impl Model for Regions {
       keys = r.keys.items;
     } };
 
-    ghost invariant = { λ r. (i j : ℕ) → i ≤ j → j < length r.keys.items
-        → slice_index_or r.keys.items i 0 ≤ slice_index_or r.keys.items j 0 };
+    ghost invariant = { λ r. (r.labels.none ≡ 0) × (r.covered.none ≡ false)
+        × ((i j : ℕ) → i ≤ j → j < length r.keys.items
+        → slice_index_or r.keys.items i 0 ≤ slice_index_or r.keys.items j 0) };
 }
 
 // Whether a variable is universal, and w is outer or same to it.
@@ -47,15 +50,49 @@ fn is_behind(kernel: &Kernel, var: u32, w: u32) -> bool
     is_universal(kernel, var) && kernel.prefix().outer_or_same(w, var)
 }
 
-// The same for a variable that may be none.
-fn is_place_behind(kernel: &Kernel, place: usize, w: u32) -> bool
+// Covers a variable of the row if it is universal, and w is outer or same to it.
+fn cover(covered: &mut Sparse<bool>, kernel: &Kernel, var: u32, w: u32)
     requires { is_bound kernel.now.prefix w ≡ true }
-    ensures { IsTrue result → outer_or_same kernel.now.prefix w place ≡ true }
+    ensures none { covered.new.none ≡ covered.old.none }
+    ensures behind { (u : ℕ) → item_at covered.new u ≡ true
+        → (item_at covered.old u ≡ true) ⊎ (outer_or_same kernel.now.prefix w u ≡ true) }
 {
-    match u32::try_from(place) {
-        Ok(var) => is_behind(kernel, var, w),
-        Err(_) => false,
+    if is_behind(kernel, var, w) && (var as usize) < covered.len() {
+        covered.set(var as usize, true);
     }
+}
+
+// A label for each existential variable that is inner to w. The universal variables that are not outer to w are covered. Gives
+// the variables with labels.
+fn start(
+    labels: &mut Sparse<u32>,
+    covered: &mut Sparse<bool>,
+    kernel: &Kernel,
+    w: u32,
+) -> Result<Vec<u32>, NoMemory>
+    requires bound { is_bound kernel.now.prefix w ≡ true }
+    requires bare { (u : ℕ) → item_at covered.old u ≡ false }
+    ensures labels { labels.new.none ≡ labels.old.none }
+    ensures covered { covered.new.none ≡ covered.old.none }
+    ensures behind { (u : ℕ) → item_at covered.new u ≡ true
+        → outer_or_same kernel.now.prefix w u ≡ true }
+{
+    let end = kernel.greatest_var() as usize + 1;
+    labels.grow(end)?;
+    covered.grow(end)?;
+    let mut inner = Vec::new(kernel.allocator());
+    let mut at = kernel.prefix().first();
+    for _ in 0..kernel.prefix().len() {
+        let Some(bound) = at else { return Ok(inner) };
+        if is_inner(kernel, bound.var, w) {
+            put_label(labels, bound.var, bound.var);
+            inner.push(bound.var)?;
+        } else {
+            cover(covered, kernel, bound.var, w);
+        }
+        at = kernel.prefix().after(bound.var);
+    }
+    Ok(inner)
 }
 
 // A literal and a region as one number.
@@ -68,8 +105,8 @@ fn key_of(lit: Lit, region: u32) -> u64
 // Notes the literals of a clause that stand beside a label.
 fn note(
     keys: &mut Vec<u64>,
-    labels: &[u32],
-    covered: &[bool],
+    labels: &Sparse<u32>,
+    covered: &Sparse<bool>,
     clause: &[Lit],
 ) -> Result<(), NoMemory> {
     let region = clause
@@ -81,7 +118,7 @@ fn note(
         return Ok(());
     }
     for l in clause {
-        if covered.get(l.var() as usize).copied().unwrap_or(false) {
+        if covered.get(l.var() as usize) {
             keys.push(key_of(*l, region))?;
         }
     }
@@ -90,8 +127,8 @@ fn note(
 
 fn note_all(
     keys: &mut Vec<u64>,
-    labels: &[u32],
-    covered: &[bool],
+    labels: &Sparse<u32>,
+    covered: &Sparse<bool>,
     kernel: &Kernel,
 ) -> Result<(), NoMemory> {
     for id in kernel.ids() {
@@ -106,19 +143,10 @@ impl Regions {
         ensures { result ≡ no_regions }
     {
         Regions {
-            labels: Vec::new(alloc),
-            covered: Vec::new(alloc),
+            labels: Sparse::new(alloc, 0),
+            covered: Sparse::new(alloc, false),
             keys: Vec::new(alloc),
         }
-    }
-
-    /// Forgets what is known.
-    pub fn forget(&mut self)
-        ensures { self.new ≡ no_regions }
-    {
-        self.labels.clear();
-        self.covered.clear();
-        self.keys.clear();
     }
 
     /// Makes regions for the block of a variable. It costs the size of the formula, but for a small factor.
@@ -127,8 +155,8 @@ impl Regions {
         ensures { AreRegions kernel.now.prefix (live (slots kernel.now)) self.new }
     {
         let filled = self.fill(kernel, w);
-        if filled.is_err() || !self.lies_behind(kernel, w) || !self.is_right(kernel, w) {
-            self.forget();
+        if filled.is_err() || !self.is_right(kernel, w) {
+            *self = Regions::new(kernel.allocator());
         }
         filled
     }
@@ -175,7 +203,7 @@ impl Regions {
     fn covers(&self, u: u32) -> bool
         ensures { result ≡ is_covered self.now u }
     {
-        self.covered.get(u as usize).copied().unwrap_or(false)
+        self.covered.get(u as usize)
     }
 
     fn has_noted(&self, lit: Lit, region: u32) -> bool
@@ -184,44 +212,19 @@ impl Regions {
         self.keys.binary_search(&key_of(lit, region)).is_ok()
     }
 
-    // Finds regions, which are still to be verified.
+    // Finds regions, which are still to be verified, for variables to which w is outer or same.
     fn fill(&mut self, kernel: &Kernel, w: u32) -> Result<(), NoMemory>
         requires { is_bound kernel.now.prefix w ≡ true }
+        ensures { OnOk result ((u : ℕ) → is_covered self.new u ≡ true
+            → outer_or_same kernel.now.prefix w u ≡ true) }
     {
-        self.forget();
-        self.start(kernel, w)?;
+        *self = Regions::new(kernel.allocator());
+        let inner = start(&mut self.labels, &mut self.covered, kernel, w)?;
         join_all(&mut self.labels, kernel);
-        flatten(&mut self.labels);
+        flatten(&mut self.labels, &inner);
         let noted = note_all(&mut self.keys, &self.labels, &self.covered, kernel);
         self.keys.sort_unstable();
         noted
-    }
-
-    // A region for each existential variable that is inner to w. They are for the universal variables that are not
-    // outer to w.
-    fn start(&mut self, kernel: &Kernel, w: u32) -> Result<(), NoMemory>
-        requires { is_bound kernel.now.prefix w ≡ true }
-    {
-        for var in 0..=kernel.greatest_var() {
-            let label = if is_inner(kernel, var, w) { var } else { 0 };
-            self.labels.push(label)?;
-            self.covered.push(is_behind(kernel, var, w))?;
-        }
-        Ok(())
-    }
-
-    // Whether w is outer or same to each variable that is covered.
-    fn lies_behind(&self, kernel: &Kernel, w: u32) -> bool
-        requires { is_bound kernel.now.prefix w ≡ true }
-        ensures { IsTrue result → (u : ℕ) → is_covered self.now u ≡ true
-            → outer_or_same kernel.now.prefix w u ≡ true }
-    {
-        for (var, covered) in self.covered.iter().enumerate() {
-            if *covered && !is_place_behind(kernel, var, w) {
-                return false;
-            }
-        }
-        true
     }
 
     // Whether each clause has its literals that are inner to w in one region.

@@ -1,7 +1,8 @@
 -- Marks of literals, by their places.
-use Rattle.std.specs.Prelude.{◌≡◌, ◌↔◌, Bool, true, false, List, slice_index_or}
+use Rattle.std.specs.Prelude.{◌≡◌, ◌↔◌, Bool, true, List}
 use Rattle.q_logic.specs.Prelude.{Literal, pack, IsIn}
+use Rattle.q_pages.specs.ByNumber.{Values, value_at}
 
 -- the marks are those of the literals in the list
-abbrev pub IsMarked : List Bool → List Literal → Type 0
-IsMarked marks lits = (l : Literal) → (slice_index_or marks (pack l) false ≡ true) ↔ IsIn l lits
+abbrev pub IsMarked : Values Bool → List Literal → Type 0
+IsMarked marks lits = (l : Literal) → (value_at marks (pack l) ≡ true) ↔ IsIn l lits

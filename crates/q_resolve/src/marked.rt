@@ -1,9 +1,10 @@
 //! Literals with a mark for each, so that it costs one look whether one of them is there.
-ghost use Rattle.std.specs.Prelude.{◌≡◌, ◌↔◌, ◌<◌, ◌++◌, ◌∷◌, [], ℕ, OnOk, OnErr, slice_index_or, vec_len, false, true, IsTrue};
-ghost use Rattle.q_logic.specs.Prelude.{pack, has, IsIn};
+ghost use Rattle.std.specs.Prelude.{◌≡◌, ◌↔◌, ◌++◌, ◌∷◌, [], OnOk, OnErr, false, IsTrue};
+ghost use Rattle.q_logic.specs.Prelude.{has, IsIn};
 ghost use Rattle.q_resolve.specs.Marks.{IsMarked};
 
 use q_logic::{Lit, NoMemory};
+use q_pages::ByNumber;
 use std::alloc::Global;
 use std::marker::Model;
 
@@ -11,11 +12,11 @@ use std::marker::Model;
 #[derive(Drop)]
 pub struct Marked {
     lits: Vec<Lit>,
-    marks: Vec<bool>,
+    marks: ByNumber<bool>,
 }
 
 impl Model for Marked {
-    ghost use Rattle.std.specs.Prelude.{List};
+    ghost use Rattle.std.specs.Prelude.{◌≡◌, List, false};
     ghost use Rattle.q_logic.specs.Prelude.{Literal};
     ghost use Rattle.q_resolve.specs.Marks.{IsMarked};
 
@@ -23,7 +24,7 @@ impl Model for Marked {
 
     ghost view = { λ q. q.lits.items };
 
-    ghost invariant = { λ q. IsMarked q.marks.items q.lits.items };
+    ghost invariant = { λ q. IsMarked q.marks q.lits.items × (q.marks.far.none ≡ false) };
 }
 
 impl Marked {
@@ -32,14 +33,14 @@ impl Marked {
     {
         Marked {
             lits: Vec::new(alloc),
-            marks: Vec::new(alloc),
+            marks: ByNumber::new(alloc, false),
         }
     }
 
     fn is_marked(&self, lit: Lit) -> bool
         ensures { IsTrue result ↔ IsIn lit self.now }
     {
-        self.marks.get(lit.index()).copied().unwrap_or(false)
+        self.marks.get(lit.index())
     }
 
     /// Whether the literal is marked.
@@ -53,9 +54,9 @@ impl Marked {
         ensures ok { OnOk result (self.new ≡ self.old ++ lit ∷ []) }
         ensures err { OnErr result (self.new ≡ self.old) }
     {
-        make_room(&mut self.marks, lit)?;
-        self.lits.push(lit)?;
-        self.marks[lit.index()] = true;
+        self.lits.reserve(1)?;
+        self.marks.put(lit.index(), true)?;
+        self.lits.push_reserved(lit);
         Ok(())
     }
 
@@ -65,7 +66,7 @@ impl Marked {
         &self.lits
     }
 
-    /// Takes all marks away. It costs what they are, not the row.
+    /// Takes all marks away, in as many steps as there are literals.
     pub fn clear(&mut self)
         ensures { self.new ≡ [] }
     {
@@ -85,24 +86,16 @@ pub fn mark(marked: &mut Marked, lits: &[Lit]) -> Result<(), NoMemory>
     Ok(())
 }
 
-fn make_room(marks: &mut Vec<bool>, lit: Lit) -> Result<(), NoMemory>
-    ensures room { OnOk result (pack lit < vec_len marks.new) }
-    ensures same { (k : ℕ) → slice_index_or marks.new.items k false
-        ≡ slice_index_or marks.old.items k false }
-{
-    let end = lit.index() + 1;
-    if marks.len() < end {
-        marks.resize(end, false)?;
-    }
-    Ok(())
-}
-
-// Takes the marks of the literals away, which are all that there are.
-fn unmark(marks: &mut Vec<bool>, lits: &[Lit])
-    requires { IsMarked marks.old.items lits.now }
-    ensures { IsMarked marks.new.items [] }
+// Takes the marks of the literals away, which are all that there are. A literal may stand there twice.
+fn unmark(marks: &mut ByNumber<bool>, lits: &[Lit])
+    requires marked { IsMarked marks.old lits.now }
+    requires none { marks.old.far.none ≡ false }
+    ensures marked { IsMarked marks.new [] }
+    ensures none { marks.new.far.none ≡ false }
 {
     for lit in lits {
-        marks[lit.index()] = false;
+        if marks.get(lit.index()) {
+            marks.clear(lit.index());
+        }
     }
 }

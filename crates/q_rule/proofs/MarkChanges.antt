@@ -3,11 +3,19 @@ use Rattle.std.proofs.Common.{◌≡◌, ℕ, zero, suc, ◌<◌, ◌≤◌, Boo
 use Rattle.std.proofs.lemmas.Bool.{cases_eq}
 use Rattle.q_logic.specs.Prelude.{Literal, pack, IsIn}
 use Rattle.q_logic.proofs.Common.{IsIn-append, IsIn-append_left, IsIn-append_right, IsIn-drop_next, IsIn-drop_within, mark_room, pack-same}
+use Rattle.q_sparse.specs.Rows.{Row, item_at}
 use Rattle.q_rule.specs.Marks.{IsMarked}
 
 -- the marks may be in a longer row
 pub marked-along : (marks more : List Bool) (lits : List Literal) → ((k : ℕ) → get_or more k false ≡ get_or marks k false) → IsMarked marks lits → IsMarked more lits
 marked-along marks more lits e h l = rw (e (pack l)) (h l)
+
+-- where a row has the marks of another one
+pub marked-row : (old new : Row Bool) (lits : List Literal) → old.none ≡ false → new.none ≡ old.none → ((k : ℕ) → item_at new k ≡ item_at old k) → IsMarked old.items lits → IsMarked new.items lits
+marked-row old new lits e f h = marked-along old.items new.items lits (λ k.
+    let a : get_or new.items k false ≡ item_at new k = ap (λ d. get_or new.items k d) (sym (f ∙ e)) in
+    let b : item_at old k ≡ get_or old.items k false = ap (λ d. get_or old.items k d) e in
+    a ∙ h k ∙ b)
 
 pub marked-none : IsMarked [] []
 marked-none l = (λ m. absurd (true≢false (sym m)), λ m. absurd m)

@@ -82,6 +82,7 @@ fn find_if_live(kernel: &Kernel, c: ClauseId, from: u32) -> Option<Target>
 }
 
 /// A target by which the clause c changes another one.
+#[inline]
 pub fn find_by(kernel: &Kernel, c: ClauseId, from: u32) -> Option<Target>
     requires live { (C : Clause) × (slot (slots kernel.now) c ≡ Some C) }
     requires swept { IsSwept (formula_in kernel.now) }

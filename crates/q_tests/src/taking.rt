@@ -4,7 +4,7 @@ ghost use Rattle.q_kernel.specs.Prelude.{IsReady};
 
 use crate::checking::audit;
 use crate::formulas::formula_text;
-use crate::guides::{RowGuide, guide_of};
+use crate::guides::guide_of;
 use crate::notation::number;
 use crate::places::lists;
 use crate::row_targets::{RowTarget, find, group_of, row_target_of, try_one};
@@ -166,11 +166,11 @@ fn name_of(alloc: Global, row_target: Option<RowTarget>) -> Result<String, Troub
 fn proposals(alloc: Global, kernel: &Kernel, guide: &str) -> Result<String, Trouble>
     requires { IsReady kernel.now }
 {
-    let mut guide = guide_of(alloc, guide)?;
-    proposed(alloc, kernel, &mut guide)
+    let guide = guide_of(alloc, guide)?;
+    proposed(alloc, kernel, guide)
 }
 
-fn proposed(alloc: Global, kernel: &Kernel, guide: &mut RowGuide) -> Result<String, Trouble>
+fn proposed<G: Guide>(alloc: Global, kernel: &Kernel, mut guide: G) -> Result<String, Trouble>
     requires { IsReady kernel.now }
 {
     let mut text = String::new(alloc);

@@ -56,8 +56,11 @@ impl Rows {
         ensures ok { OnOk result (IsPushed self.old self.new lit entry) }
         ensures err { OnErr result (AreSameRows self.old self.new) }
     {
-        grow(self.alloc, &mut self.rows, lit.index())?;
-        push_at(&mut self.rows, lit.index(), entry)
+        let at = lit.index();
+        if at >= self.rows.len() {
+            grow(self.alloc, &mut self.rows, at)?;
+        }
+        push_at(&mut self.rows, at, entry)
     }
 
     /// Takes an entry out. The last one of its row comes in its place.
@@ -93,7 +96,9 @@ fn entry_at(rows: &Vec<Vec<Entry>>, at: usize, i: usize) -> Entry
     row[i]
 }
 
-// Empty rows up to a place.
+// Empty rows up to a place. It is seldom called for, so it is a call of its own.
+#[cold]
+#[inline(never)]
 fn grow(alloc: Global, rows: &mut Vec<Vec<Entry>>, at: usize) -> Result<(), NoMemory>
     ensures room { OnOk result (at < vec_len rows.new) }
     ensures same { (j : ℕ) → slice_index_or (map (λ v. v.items) rows.new.items) j []

@@ -1,6 +1,4 @@
-use Rattle.std.proofs.Common.{◌∙◌, List, sym, subst}
-use Rattle.q_logic.specs.Prelude.{Literal}
-use Rattle.q_encode.specs.Translations.{IsTranslation}
+use Rattle.std.proofs.Common.{◌∙◌}
 use Rattle.q_encode.proofs.WholeMiters.{herbrand-made}
 use Rattle.q_encode.proofs.herbrand.herbrand_clauses.Goals as goal
 
@@ -9,5 +7,4 @@ returns c =
     c.finish.ensures ∙
     herbrand-made c.args.formula.now c.args.circuits.now c.args.top c.aig.result.now c.new-rows.result c.put_definitions.new.rows c.put_clauses.new.rows
     c.requires.top c.aig.ensures c.new-rows.ensures c.in_ok-put_definitions.ensures
-    (c.in_ok-put_clauses.ensures c.args.top c.args.circuits.now
-    (subst (λ (row : List Literal). IsTranslation c.args.top c.args.circuits.now row) (sym c.deref.ensures.value) c.in_ok-row.ensures))
+    (c.in_ok-put_clauses.ensures c.args.top c.args.circuits.now c.in_ok-circuit_lits.ensures)

@@ -1,12 +1,8 @@
-use Rattle.std.proofs.Common.{◌++◌, ◌∷◌, [], ◌+◌, ◌∙◌, ap, sym, drop, length}
+use Rattle.std.proofs.Common.{◌++◌, ◌∷◌, [], ◌+◌, ◌∙◌, ap, sym, drop}
 use Rattle.q_logic.specs.Prelude.{Clause, Matrix, clause_of}
 use Rattle.q_miter.specs.Miters.{translated_clause, translated_matrix, in_order}
 use Rattle.q_encode.proofs.MadeRows.{put-more, translated-next}
-use Rattle.q_encode.proofs.Translated.{up-bound}
 use Rattle.q_encode.proofs.herbrand.put_clauses.Goals as goal
-
-pub translate-requires : goal.translate-requires
-translate-requires c = up-bound (length c.args.row.now) c.args.formula.now.prefix c.clause.result.now c.clause.ensures.bound c.requires
 
 pub loop-at-preserved : goal.loop-at-preserved
 loop-at-preserved c top cert h =

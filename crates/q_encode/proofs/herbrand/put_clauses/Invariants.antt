@@ -5,6 +5,6 @@ use Rattle.q_encode.specs.Translations.{IsTranslation}
 use Rattle.q_encode.proofs.herbrand.put_clauses.Given as goal
 
 abbrev pub invariant-loop-at : goal.invariant-loop-at
-invariant-loop-at l = (top : ℕ) → (c : CertificateView) → IsTranslation top c l.row →
+invariant-loop-at l = (top : ℕ) → (c : CertificateView) → IsTranslation top c l.circuit_lits →
     l.rows ++ in_order (translated_matrix top c (drop l.at l.formula.matrix)) ≡
     l.initial.rows ++ in_order (translated_matrix top c l.formula.matrix)

@@ -1,13 +1,9 @@
 use Rattle.std.proofs.Common.{◌≡◌, ◌++◌, ◌+◌, ◌∙◌, ℕ, ap, sym, subst, drop, length}
 use Rattle.q_logic.specs.Prelude.{Literal, Matrix}
-use Rattle.q_logic.proofs.Common.{slice_get-IsIn}
 use Rattle.q_aig.specs.Prelude.{Net}
 use Rattle.q_miter.specs.Miters.{selector, denials, selections, in_order}
 use Rattle.q_encode.proofs.MadeRows.{put-more, selections-next}
 use Rattle.q_encode.proofs.skolem.put_selections.Goals as goal
-
-pub put_denials-requires : goal.put_denials-requires
-put_denials-requires c = c.requires.clauses c.clause.result.now (slice_get-IsIn c.args.clauses.now c.loop-at.at c.clause.result.now c.clause.ensures)
 
 pub loop-at-preserved : goal.loop-at-preserved
 loop-at-preserved c =
@@ -18,6 +14,6 @@ loop-at-preserved c =
     let rest = in_order (selections c.args.top c.args.circuits.now (c.loop-at.at + 1) (drop (c.loop-at.at + 1) c.args.clauses.now)) in
     put-more c.loop-at.rows c.put_denials.new.rows _ part rest
     (subst (λ (k : Literal). c.put_denials.new.rows ≡ c.loop-at.rows ++ in_order (denials c.args.top c.args.circuits.now k c.clause.result.now)) q
-    (c.in_ok-put_denials.ensures c.args.top c.args.circuits.now c.requires.row))
+    (c.in_ok-put_denials.ensures c.args.top c.args.circuits.now c.requires.lits))
     (ap (λ (X : Matrix). c.loop-at.rows ++ X) (sym (selections-next c.args.top c.args.circuits.now c.args.clauses.now c.loop-at.at c.clause.result.now c.clause.ensures)) ∙
     c.loop-at.invariant)

@@ -1,7 +1,6 @@
-use Rattle.std.proofs.Common.{◌≡◌, ◌∙◌, List, length, ap, arith}
-use Rattle.q_logic.specs.Prelude.{Literal}
+use Rattle.std.proofs.Common.{◌≡◌, ◌∙◌, length, ap, arith}
 use Rattle.q_aig.specs.Prelude.{Net}
-use Rattle.q_encode.proofs.WholeMiters.{skolem-made, kept-room, kept-up, top-above}
+use Rattle.q_encode.proofs.WholeMiters.{skolem-made, kept-room}
 use Rattle.q_encode.proofs.skolem.skolem_clauses.Goals as goal
 
 pub selectors-requires : goal.selectors-requires
@@ -14,16 +13,10 @@ pub put_selections-requires-clause-room : goal.put_selections-requires-clause-ro
 put_selections-requires-clause-room c =
     let k = kept-room c.args.formula.now c.args.circuits.now c.args.top c.in_ok-kept.kept c.in_ok-kept.ensures in omega arith
 
-pub put_selections-requires-clause-clauses : goal.put_selections-requires-clause-clauses
-put_selections-requires-clause-clauses c =
-    kept-up c.args.formula.now c.args.circuits.now c.args.top (length c.deref-3.result.now) c.in_ok-kept.kept c.prefix.ensures.proper.formula c.in_ok-kept.ensures
-    (top-above c.args.formula.now c.args.circuits.now c.args.top (length c.deref-3.result.now) c.requires.top
-    (ap (λ (row : List Literal). length row) c.deref-3.ensures.value ∙ c.in_ok-row.ensures.room))
-
 pub returns : goal.returns
 returns c =
     c.finish.ensures ∙
     skolem-made c.args.formula.now c.args.circuits.now c.args.top c.gates.result c.len.result c.aig.result.now c.new-rows.result c.put_definitions.new.rows
-    c.put.new.self c.put_selections.new.rows c.in_ok-kept.kept c.deref-2.result.now c.requires.top c.aig.ensures
+    c.put.new.self c.put_selections.new.rows c.in_ok-kept.kept c.deref.result.now c.requires.top c.aig.ensures
     (c.gates.ensures.value ∙ ap (λ (a : Net). length a.gates) c.aig-2.ensures) c.len.ensures c.new-rows.ensures c.in_ok-put_definitions.ensures
-    c.in_ok-kept.ensures (c.deref-2.ensures.value ∙ c.in_ok-chosen.ensures) c.in_ok-put.ensures c.in_ok-put_selections.ensures
+    c.in_ok-kept.ensures (c.deref.ensures.value ∙ c.in_ok-chosen.ensures) c.in_ok-put.ensures c.in_ok-put_selections.ensures

@@ -5,4 +5,4 @@ use Rattle.q_encode.specs.Translations.{IsTranslation}
 use Rattle.q_encode.proofs.translating.translate.Given as goal
 
 abbrev pub invariant-loop-lit : goal.invariant-loop-lit
-invariant-loop-lit l = (top : ℕ) → (c : CertificateView) → IsTranslation top c l.row → l.made.items ≡ translated_clause top c (take l.lit-index l.clause)
+invariant-loop-lit l = (top : ℕ) → (c : CertificateView) → IsTranslation top c l.circuit_lits → l.made.items ≡ translated_clause top c (take l.lit-index l.clause)

@@ -9,6 +9,6 @@ use Rattle.q_equiv.proofs.find.find_from.Given as goal
 
 abbrev pub invariant-loop-var : goal.invariant-loop-var
 invariant-loop-var l = record {
-  falling : NeverRise l.walks.levels.items (live (slots l.kernel));
+  falling : NeverRise l.walks.levels (live (slots l.kernel));
   none : (t : Target) → l.from ≤ place (target_of t) → place (target_of t) < l.var → (B : Bounds) → Fits B l.kernel.prefix (slots l.kernel) (target_of t) → ⊥;
 }

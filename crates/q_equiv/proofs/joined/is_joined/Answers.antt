@@ -14,7 +14,7 @@ loop-head-init c =
 pub loop-head-preserved : goal.loop-head-preserved
 loop-head-preserved c =
     let room : c.loop-head.head < length c.loop-head.queue = omega arith in
-    walk-more [] (live (slots c.args.kernel.now)) c.args.from c.loop-head.head c.at.result c.loop-head.queue c.spread.new.queue c.loop-head.invariant room c.at.ensures c.in_ok-spread.ensures
+    walk-more [] (live (slots c.args.kernel.now)) c.args.from c.loop-head.head c.at.result c.loop-head.queue c.spread_all.new.queue c.loop-head.invariant room c.at.ensures c.in_ok-spread_all.ensures
 
 pub returns-then-has : goal.returns-then-has
 returns-then-has c = ((λ t. c.loop-head.invariant.linked c.args.to (c.has.ensures.0 c.if-has.true)), (λ j. refl))

@@ -1,5 +1,5 @@
-use Rattle.std.proofs.Common.{◌≡◌, vec_len}
+use Rattle.std.proofs.Common.{◌≡◌}
 use Rattle.q_reduce.proofs.joining.join_clause.Given as goal
 
 abbrev pub invariant-loop-k : goal.invariant-loop-k
-invariant-loop-k l = vec_len l.labels ≡ vec_len l.fn.labels
+invariant-loop-k l = l.labels.none ≡ l.fn.labels.none

@@ -1,26 +1,25 @@
-use Rattle.std.proofs.Common.{◌<◌, length, false, refl, ◌∙◌, arith, add-one, length-set}
+use Rattle.std.proofs.Common.{◌≡◌, false, refl, sym, ◌∙◌, add-one}
 use Rattle.q_logic.specs.Prelude.{pack}
-use Rattle.q_resolve.proofs.MarkChanges.{item_room, unmarked-more, unmarked-all}
+use Rattle.q_pages.specs.ByNumber.{value_at}
+use Rattle.q_resolve.proofs.MarkChanges.{unmarked-more}
+use Rattle.q_resolve.proofs.marked.unmark.Goals.{then-get, else-get}
 use Rattle.q_resolve.proofs.marked.unmark.Goals as goal
-
-pub loop-lit-init : goal.loop-lit-init
-loop-lit-init c = record { len = refl; marked = λ l m. (c.requires l).0 m }
-
-pub index_mut-requires : goal.index_mut-requires
-index_mut-requires c =
-    let room : pack c.lit-item.result < length c.args.marks.now.items = item_room c.args.marks.now.items c.args.lits.now c.loop-lit.lit-index c.lit-item.result c.loop-lit-test.true c.lit-item.is c.requires in
-    let same = c.loop-lit.invariant.len in
-    omega (arith, room, same, c.index.ensures, c.loop-lit.marks.ok.0)
 
 pub loop-lit-preserved : goal.loop-lit-preserved
 loop-lit-preserved c =
-    let room : pack c.lit-item.result < length c.args.marks.now.items = item_room c.args.marks.now.items c.args.lits.now c.loop-lit.lit-index c.lit-item.result c.loop-lit-test.true c.lit-item.is c.requires in
-    let same = c.loop-lit.invariant.len in
-    let here : pack c.lit-item.result < length c.loop-lit.marks.items = omega (arith, room, same) in
-    rw (c.index.ensures) (record {
-      len = length-set c.loop-lit.marks.items (pack c.lit-item.result) false ∙ same;
-      marked = rw add-one (unmarked-more c.loop-lit.marks.items c.args.lits.now c.loop-lit.lit-index c.lit-item.result c.loop-lit-test.true c.lit-item.is here c.loop-lit.invariant.marked);
-    })
-
-pub returns : goal.returns
-returns c = unmarked-all c.loop-lit.marks.items c.args.lits.now c.loop-lit.lit-index c.loop-lit-test.false c.loop-lit.invariant.marked
+    let marks = c.loop-lit.marks in
+    let none = c.loop-lit.invariant.none in
+    elim c.if-get.branch [
+      | then-get w ↦
+          let put = rw w.index-then-get.ensures at w.clear.ensures in
+          rw (w.marks-is) (record {
+            none = put.none ∙ none;
+            marked = rw add-one (unmarked-more marks w.clear.new.self c.args.lits.now c.loop-lit.lit-index c.lit-item.result c.loop-lit-test.true c.lit-item.is (put.here ∙ none) put.others c.loop-lit.invariant.marked);
+          })
+      | else-get w ↦
+          let unmarked : value_at marks (pack c.lit-item.result) ≡ false = rw (← c.index.ensures) (sym c.get.ensures ∙ w.if-get.false) in
+          rw (w.marks-is) (record {
+            none = none;
+            marked = rw add-one (unmarked-more marks marks c.args.lits.now c.loop-lit.lit-index c.lit-item.result c.loop-lit-test.true c.lit-item.is unmarked (λ j n. refl) c.loop-lit.invariant.marked);
+          })
+    ]

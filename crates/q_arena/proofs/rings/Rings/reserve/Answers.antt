@@ -1,32 +1,41 @@
-use Rattle.std.proofs.Common.{◌≤◌, length, arith, ap, sym, ◌∙◌, inl, inr, ℕ}
-use Rattle.q_arena.proofs.Growth.{AreSound-places}
-use Rattle.q_arena.specs.declared.rings.Link.{Link}
-use Rattle.q_arena.specs.Nodes.{base, blank}
-use Rattle.q_arena.proofs.ArenaView.{get_or-mapped}
+use Rattle.std.proofs.Common.{refl}
+use Rattle.q_arena.proofs.ArenaView.{length-lists}
+use Rattle.q_arena.proofs.Growth.{AreRows-grown, few-grown, lists-kept, owners-kept}
 use Rattle.q_arena.proofs.rings.Rings.reserve.Goals as goal
 
 pub invariant_of-self : goal.invariant_of-self
 invariant_of-self c =
-    let few : length c.grow_places.new.places.items ≤ base = elim c.grow_places.ensures.exact [
-      | inl e ↦ omega (arith, e, c.self.invariant.few_places)
-      | inr e ↦ omega (arith, e, c.if-room-gt-MOST.false)
-    ] in
-    AreSound-places c.self.inside.places.items c.grow_places.new.places.items c.self.inside.heads.items c.grow_places.ensures.same c.self.invariant c.grow_places.ensures.more few
+    AreRows-grown c.grow.new.self c.self.inside.heads c.self.invariant c.grow.ensures.none refl c.grow.ensures.items (λ k. refl) c.grow.ensures.kept
+    (few-grown _ _ c.args.room c.self.invariant.sound.few_places c.if-room-gt-MOST.false c.grow.ensures.exact) c.self.invariant.sound.few_heads c.grow.ensures.full refl
 
-pub grow_heads-requires-clause-sound : goal.grow_heads-requires-clause-sound
-grow_heads-requires-clause-sound c =
-    let few : length c.grow_places.new.places.items ≤ base = elim c.grow_places.ensures.exact [
-      | inl e ↦ omega (arith, e, c.self.invariant.few_places)
-      | inr e ↦ omega (arith, e, c.if-room-gt-MOST.false)
-    ] in
-    AreSound-places c.self.inside.places.items c.grow_places.new.places.items c.self.inside.heads.items c.grow_places.ensures.same c.self.invariant c.grow_places.ensures.more few
+pub invariant_of-self-2 : goal.invariant_of-self-2
+invariant_of-self-2 c =
+    AreRows-grown c.grow.new.self c.grow-2.new.self c.self.invariant c.grow.ensures.none c.grow-2.ensures.none c.grow.ensures.items c.grow-2.ensures.items c.grow.ensures.kept
+    (few-grown _ _ c.args.room c.self.invariant.sound.few_places c.if-room-gt-MOST.false c.grow.ensures.exact)
+    (few-grown _ _ c.args.heads c.self.invariant.sound.few_heads c.if-heads-gt-MOST.false c.grow-2.ensures.exact)
+    c.grow.ensures.full c.grow-2.ensures.full
 
-pub returns-in_err-grow_places-clause-owners : goal.returns-in_err-grow_places-clause-owners
-returns-in_err-grow_places-clause-owners c = λ p.
-    let tag : Link → ℕ = λ k. k.tag in
-    rw (← c.self.view_is) (get_or-mapped tag blank c.grow_places.new.places.items p ∙ ap tag (c.grow_places.ensures.same p) ∙ sym (get_or-mapped tag blank c.self.inside.places.items p))
+pub returns-in_err-grow-clause-lists : goal.returns-in_err-grow-clause-lists
+returns-in_err-grow-clause-lists c =
+    rw (← c.self.view_is) (lists-kept c.grow.new.self c.self.inside.heads c.self.invariant c.grow.ensures.none refl c.grow.ensures.items (λ k. refl))
+
+pub returns-in_err-grow-clause-owners : goal.returns-in_err-grow-clause-owners
+returns-in_err-grow-clause-owners c =
+    rw (← c.self.view_is) (owners-kept c.grow.new.self c.self.inside.heads c.self.invariant c.grow.ensures.none refl c.grow.ensures.items (λ k. refl))
+
+pub returns-clause-lists : goal.returns-clause-lists
+returns-clause-lists c =
+    rw (← c.self.view_is) (lists-kept c.grow.new.self c.grow-2.new.self c.self.invariant c.grow.ensures.none c.grow-2.ensures.none c.grow.ensures.items c.grow-2.ensures.items)
 
 pub returns-clause-owners : goal.returns-clause-owners
-returns-clause-owners c = λ p.
-    let tag : Link → ℕ = λ k. k.tag in
-    rw (← c.self.view_is) (get_or-mapped tag blank c.grow_places.new.places.items p ∙ ap tag (c.grow_places.ensures.same p) ∙ sym (get_or-mapped tag blank c.self.inside.places.items p))
+returns-clause-owners c =
+    rw (← c.self.view_is) (owners-kept c.grow.new.self c.grow-2.new.self c.self.invariant c.grow.ensures.none c.grow-2.ensures.none c.grow.ensures.items c.grow-2.ensures.items)
+
+pub returns-clause-heads : goal.returns-clause-heads
+returns-clause-heads c = rw (length-lists c.grow.new.self.items c.grow-2.new.self.items) c.grow-2.ensures.len
+
+pub returns-clause-kept_heads : goal.returns-clause-kept_heads
+returns-clause-kept_heads c =
+    let old = length-lists c.self.inside.places.items c.self.inside.heads.items in
+    let new = length-lists c.grow.new.self.items c.grow-2.new.self.items in
+    rw (← c.self.view_is) (rw (old, new) c.grow-2.ensures.kept)

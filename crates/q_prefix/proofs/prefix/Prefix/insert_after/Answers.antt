@@ -6,7 +6,7 @@ use Rattle.q_logic.specs.declared.formulas.Bound.{Bound}
 use Rattle.q_logic.specs.Prelude.{is_bound}
 use Rattle.q_arena.specs.Prelude.{Has, list_at}
 use Rattle.q_prefix.specs.declared.marks.Mark.{Mark}
-use Rattle.q_prefix.specs.Order.{FlatPrefix, mark_at, bound_of, bounds_of, with_after}
+use Rattle.q_prefix.specs.Order.{FlatPrefix, IsPrefix, mark_at, bound_of, bounds_of, with_after}
 use Rattle.q_arena.proofs.ArenaView.{length-set'}
 use Rattle.q_prefix.proofs.ListedBounds.{has-bound, bound-has, quant-has}
 use Rattle.q_prefix.proofs.PrefixChanges.{prefix-inserted, bounds-inserted, mark-set_here}
@@ -40,7 +40,8 @@ invariant_of-self c =
     true≢false (sym (bound-has marks vars c.args.v h) ∙ absent) in
     let vl : c.args.v < length marks = omega (arith, c.self.invariant.some, rw (← c.self.view_is) at c.requires.reserved) in
     let owners = ap length c.insert_after.ensures.owners ∙ length-set' c.self.inside.order.owners c.args.v 0 in
-    prefix-inserted c.self.inside.order c.insert_after.new.self marks c.args.v c.args.w c.mark_of-mark.result c.self.invariant c.insert_after.ensures.lists owners there fresh vl c.mark_of-mark.ensures
+    subst (IsPrefix c.insert_after.new.self) (sym c.set_mark.ensures)
+    (prefix-inserted c.self.inside.order c.insert_after.new.self marks c.args.v c.args.w c.mark_of-mark.result c.self.invariant c.insert_after.ensures.lists owners there fresh vl c.mark_of-mark.ensures)
 
 pub returns-clause-bounds : goal.returns-clause-bounds
 returns-clause-bounds c = λ q e.
@@ -57,5 +58,6 @@ returns-clause-bounds c = λ q e.
     let quant : (mark_at marks c.args.w).quant ≡ q = same_Some (mark_at marks c.args.w).quant q (sym (quant-has marks vars c.args.w there) ∙ (rw (← c.self.view_is) at e)) in
     let mine : bound_of more c.args.v ≡ record { quant = q; var = c.args.v } = ap (λ (z : Quant). record { quant = z; var = c.args.v }) (ap (λ (k : Mark). k.quant) (here ∙ c.mark_of-mark.ensures) ∙ quant) in
     rw (← c.self.view_is)
-    (bounds-inserted c.self.inside.order c.insert_after.new.self marks c.args.v c.args.w c.mark_of-mark.result c.self.invariant c.insert_after.ensures.lists owners there fresh vl c.mark_of-mark.ensures
+    (ap (λ (ms : List Mark). bounds_of ms (list_at c.insert_after.new.self 0)) c.set_mark.ensures
+    ∙ bounds-inserted c.self.inside.order c.insert_after.new.self marks c.args.v c.args.w c.mark_of-mark.result c.self.invariant c.insert_after.ensures.lists owners there fresh vl c.mark_of-mark.ensures
     ∙ ap (λ (x : Bound). with_after x c.args.w (bounds_of marks vars)) mine)

@@ -25,3 +25,20 @@ returns c R m =
         | inr none ↦ absurd none
       ]
     ]
+
+pub returns-in_err-build : goal.returns-in_err-build
+returns-in_err-build c R m =
+    let all = rw (← c.self.view_is) at c.requires.regions in
+    elim c.if-len-ge-BLOCKS.branch [
+      | then-len-ge-BLOCKS w ↦ all R (later-in c.self.inside.regions.items R (rw (w.self-inside-is, w.remove.ensures.items) at m))
+      | else-len-ge-BLOCKS w ↦ all R (rw w.self-inside-is at m)
+    ]
+
+pub returns-in_err-push : goal.returns-in_err-push
+returns-in_err-push c R m =
+    let all = rw (← c.self.view_is) at c.requires.regions in
+    let a = subst (λ (Rs : List RegionMap). IsIn R Rs) c.in_err-push.ensures.items m in
+    elim c.if-len-ge-BLOCKS.branch [
+      | then-len-ge-BLOCKS w ↦ all R (later-in c.self.inside.regions.items R (rw (w.self-inside-is, w.remove.ensures.items) at a))
+      | else-len-ge-BLOCKS w ↦ all R (rw w.self-inside-is at a)
+    ]

@@ -6,4 +6,4 @@ pub returns : goal.returns
 returns c =
     let keys = c.self.inside.keys.items in
     let found = rw (c.deref.ensures.value, c.key_of.ensures) at c.binary_search.ensures.position in
-    rw (← c.self.view_is, c.is_ok.ensures.value) (found-member keys (key_of c.args.lit c.args.region) c.binary_search.result c.self.invariant found)
+    rw (← c.self.view_is, c.is_ok.ensures.value) (found-member keys (key_of c.args.lit c.args.region) c.binary_search.result c.self.invariant.2 found)

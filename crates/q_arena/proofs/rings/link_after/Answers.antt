@@ -1,0 +1,53 @@
+use Rattle.std.proofs.Common.{◌≡◌, ◌∙◌, ◌+◌, ◌≤◌, arith, ap, length, refl, inl}
+use Rattle.q_arena.specs.Nodes.{node_at, base}
+use Rattle.q_arena.specs.Rings.{rings_of}
+use Rattle.q_arena.proofs.ArenaView.{length-set'}
+use Rattle.q_arena.proofs.RingLemmas.{tag-kept}
+use Rattle.q_arena.proofs.RingInsertion.{AreRings-after}
+use Rattle.q_arena.proofs.HeldLinks.{joined, joined-is, after-steps}
+use Rattle.q_arena.proofs.SoundRings.{IsOn-after, place-below, count-fits}
+use Rattle.q_arena.proofs.rings.link_after.Goals as goal
+
+pub overflow_add-counted : goal.overflow_add-counted
+overflow_add-counted c =
+    let fits = count-fits c.args.places.now.items c.args.heads.now.items c.requires.sound c.args.head c.requires.head c.args.place c.requires.place c.requires.fresh in
+    let e : c.head_link-link.result.tag ≡ (node_at c.args.places.now.items c.args.heads.now.items (base + c.args.head)).tag = ap (λ k. k.tag) (c.head_link-link.ensures c.args.places.now.items) in
+    omega arith
+
+pub returns-clause-lists : goal.returns-clause-lists
+returns-clause-lists c =
+    let p = c.args.places.now.items in
+    let h = c.args.heads.now.items in
+    let s = node_at p h in
+    let own = base + c.args.head in
+    let few : length p ≤ base = c.requires.sound.few_places in
+    let o = c.set_next-ahead.new.places.items in
+    let q = c.store.new.row.items in
+    let r = c.set_prev-last.new.places.items in
+    let g = c.store-2.new.row.items in
+    let t = joined s c.args.after c.args.place in
+    let u = joined t c.args.place (s c.args.after).next in
+    let below = place-below p h c.requires.sound c.args.head c.requires.head c.args.after c.requires.there in
+    let tagged = after-steps p h c.args.head c.requires.head few o q r g c.args.after c.args.place c.head_link-link.result c.place_link-before.result c.place_link-seen.result c.set_next-ahead.result c.set_prev-last.result c.turned.result below c.set_next-ahead.ensures.places c.requires.place
+    (c.head_link-link.ensures p) (c.place_link-before.ensures h) (c.set_next-ahead.ensures.put h) (c.place_link-seen.ensures h) c.store.ensures.items (c.set_prev-last.ensures.put h) c.turned.ensures c.store-2.ensures.items in
+    record {
+      rings = AreRings-after s t u (node_at r g) base (length p) (length h) (rings_of s base) c.args.head c.args.after c.args.place (s own).tag
+          c.requires.sound.rings few c.requires.head c.requires.place c.requires.there c.requires.fresh
+          (joined-is s c.args.after c.args.place) (joined-is t c.args.place (s c.args.after).next) refl tagged;
+      places = c.set_prev-last.ensures.places ∙ ap length c.store.ensures.items ∙ length-set' o c.args.place _ ∙ c.set_next-ahead.ensures.places;
+      heads = ap length c.store-2.ensures.items ∙ length-set' h c.args.head _;
+      tags = λ i ib. tag-kept u (node_at r g) base c.args.head _ i tagged ib;
+    }
+
+pub place_link-before-requires-clause-at : goal.place_link-before-requires-clause-at
+place_link-before-requires-clause-at c = place-below c.args.places.now.items c.args.heads.now.items c.requires.sound c.args.head c.requires.head c.args.after c.requires.there
+
+pub set_next-ahead-requires-clause-at : goal.set_next-ahead-requires-clause-at
+set_next-ahead-requires-clause-at c = inl (place-below c.args.places.now.items c.args.heads.now.items c.requires.sound c.args.head c.requires.head c.args.after c.requires.there)
+
+pub set_prev-last-requires-clause-at : goal.set_prev-last-requires-clause-at
+set_prev-last-requires-clause-at c =
+    let p = c.args.places.now.items in
+    let h = c.args.heads.now.items in
+    let long : length c.store.new.row.items ≡ length p = ap length c.store.ensures.items ∙ length-set' c.set_next-ahead.new.places.items c.args.place _ ∙ c.set_next-ahead.ensures.places in
+    rw (long, c.place_link-before.ensures h) (IsOn-after p h c.requires.sound c.args.head c.requires.head c.args.after c.requires.there)
