@@ -111,6 +111,7 @@ class Maker {
         }
         if (verb_ == "solve" && chance_.odds(0.25)) start_ = larger_formula(chance_);
         if (verb_ == "extract" && chance_.odds(0.2)) start_ = following_formula(chance_);
+        if (chance_.odds(0.06)) start_ = renumbered(chance_, std::move(start_));
         case_.files["IN"] = written(chance_, start_);
         start_ = read_formula(case_.files["IN"]);
         const Bytes role = verb_;

@@ -13,8 +13,6 @@ static std::vector<Bound> some_prefix(Chance &chance, std::vector<int> &variable
     for (size_t v = 1; v <= count; v++) variables.push_back(static_cast<int>(v));
     if (chance.odds(0.7)) chance.shuffle(variables);
     if (chance.odds(0.02)) variables.back() = chance.among({9, 100, 3000});
-    if (chance.odds(0.002)) variables.back() = chance.among({524287, 524288, 600000});
-    if (chance.odds(0.0005)) variables.back() = chance.among({16777214, 16777215}); /* tables of that size cost time */
     const double share = chance.among({0.1, 0.3, 0.5, 0.7, 1.0});
     std::vector<Bound> prefix;
     char quantifier = chance.coin() ? 'a' : 'e';

@@ -1,7 +1,10 @@
-/* Twelve variables, and so many clauses that each elimination would make the formula grow, or that one literal has a long row; and pairs
- * of variables. */
+/* Twelve variables, and so many clauses that each elimination would make the formula grow, or that one literal has a long row; pairs of
+ * variables; and other numbers. */
 #include "make_larger.h"
+#include <array>
 #include <cstdlib>
+#include <map>
+#include <set>
 #include <utility>
 
 Formula larger_formula(Chance &chance) {
@@ -68,5 +71,25 @@ Formula following_formula(Chance &chance) {
         formula.matrix.push_back(clause);
     }
     chance.shuffle(formula.matrix);
+    return formula;
+}
+
+/* either all variables lie together, or each one lies near any of these */
+Formula renumbered(Chance &chance, Formula formula) {
+    constexpr int NEAR = 40;
+    static constexpr std::array<int, 6> ENDS{NEAR, 3000, 65536, 524288, 1048576, MOST_VARIABLES - NEAR};
+    const size_t ends = chance.odds(0.1) ? ENDS.size() : ENDS.size() - 1; /* the reader goes through all numbers, which costs time */
+    const bool are_together = chance.coin();
+    const int end = ENDS[chance.below(ends)];
+    std::map<int, int> numbers;
+    std::set<int> taken;
+    for (Bound &bound : formula.prefix) {
+        int &number = numbers[bound.variable];
+        do number = (are_together ? end : ENDS[chance.below(ends)]) + static_cast<int>(chance.between(1 - NEAR, NEAR));
+        while (!taken.insert(number).second);
+        bound.variable = number;
+    }
+    for (Clause &clause : formula.matrix)
+        for (int &k : clause) k = k < 0 ? -numbers.at(-k) : numbers.at(k);
     return formula;
 }
